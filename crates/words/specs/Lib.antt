@@ -1,0 +1,4 @@
+pub mod Arithmetic
+pub mod Bytes
+pub mod Printing
+pub mod Laws
