@@ -2,7 +2,7 @@
 use mathlib.Core.Path.{_≡_}
 use mathlib.Core.List.{List}
 use mathlib.Core.Logic.{_⊎_}
-use Prim.Native.Nat.{ℕ}
+use Prim.Native.Nat.{ℕ, _<_}
 use lib.IntN.{ℤ, pos, _+ℤ_}
 use lib.ListN.{drop}
 use Rattle.std.specs.declared.option.Option.{Option}
@@ -11,7 +11,6 @@ use Rattle.instructions.specs.declared.Decoded.{Decoded}
 use Rattle.instructions.specs.declared.Instruction.{Instruction}
 use Rattle.instructions.specs.declared.Instruction.the-variants.{Load, Store, GetStatic, PutStatic, Const, Binary, Negate, Increment, NewArray, ArrayLoad, ArrayStore, ArrayLength, Pop, Dup, Dup2, Jump, JumpIf, Call, Return, Enter, Exit, Read, Print, Trap}
 use Rattle.instructions.specs.Decode.{decoded}
-use Rattle.object.specs.File.{Object}
 use Rattle.object.specs.Code.{Begins}
 
 -- the distance that a jump or call leads, from its own first byte
@@ -57,5 +56,10 @@ pub record Strays (code : List ℕ) (at : ℕ) : Type 0 where
   pub nowhere : Lands code (pos at +ℤ by) → ⊥
 
 -- an offset to blame: that of a jump or call that strays, or the main address where no instruction begins there
-abbrev pub UnfitTargetAt : Object → ℕ → Type 0
-UnfitTargetAt o at = Strays (o .code) at ⊎ ((at ≡ o .main) × (Begins (o .code) at → ⊥))
+abbrev pub UnfitTargetAt : List ℕ → ℕ → ℕ → Type 0
+UnfitTargetAt code main at = Strays code at ⊎ ((at ≡ main) × (Begins code at → ⊥))
+
+-- the lowest number of which P holds, if it holds of any
+abbrev pub Lowest : (ℕ → Type 0) → Option ℕ → Type 0
+Lowest P (Some at) = P at × ((k : ℕ) → k < at → P k → ⊥)
+Lowest P None = (k : ℕ) → P k → ⊥

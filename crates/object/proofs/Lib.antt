@@ -1,0 +1,5 @@
+pub mod Boundaries
+pub mod Headers
+pub mod Marking
+pub mod Sizes
+pub mod Straying
