@@ -1,0 +1,50 @@
+// Owns the place where a program's words come from and where its bytes go.
+// Promises what each call of a console takes, writes, refuses and leaves untouched.
+// Does not say what the words and bytes mean, and allocates nothing.
+//
+// src/slices.rt: a console over lent memory.
+// specs/Calls.antt: what the calls do.
+mod slices;
+
+use outcomes::Refusal;
+pub use slices::SliceConsole;
+pub use slices::calls::ConsoleOfSlices;
+ghost use Prim.Native.Nat.{ℕ};
+ghost use lib.IntN.{ℤ};
+ghost use lib.ListN.{length};
+ghost use mathlib.Core.List.{List};
+ghost use mathlib.Core.Path.{_≡_};
+ghost use Rattle.console.specs.Calls.{Appends, Answers, Falls, Takes};
+
+// Console is where a program takes its words from and puts its bytes.
+pub trait Console {
+    // waiting is the words that wait, the next one first.
+    ghost waiting: { Self → List ℤ };
+
+    // written is the bytes written and not drained, the oldest first.
+    ghost written: { Self → List ℕ };
+
+    // room is how many bytes more fit.
+    ghost room: { Self → ℕ };
+
+    // words_waiting is the number of words that wait.
+    fn words_waiting(&self) -> usize
+        ensures { λ r. ⌜ r ≡ length (waiting (now (self .entry))) ⌝ };
+
+    // bytes_free is the number of bytes that still fit.
+    fn bytes_free(&self) -> usize
+        ensures { λ r. ⌜ r ≡ room (now (self .entry)) ⌝ };
+
+    // take gives the next word, which then waits no more.
+    fn take(&mut self) -> Result<i32, Refusal>
+        ensures takes { λ r. ⌜ Takes r (waiting (now (self .entry))) (waiting (now (self .exit))) ⌝ }
+        ensures written { λ _. ⌜ written (now (self .exit)) ≡ written (now (self .entry)) ⌝ }
+        ensures room { λ _. ⌜ room (now (self .exit)) ≡ room (now (self .entry)) ⌝ };
+
+    // put writes all of the bytes, or none of them.
+    fn put(&mut self, bytes: &[u8]) -> Result<(), Refusal>
+        ensures answers { λ r. ⌜ Answers r (length (now (bytes .entry))) (room (now (self .entry))) ⌝ }
+        ensures written { λ r. ⌜ Appends r (now (bytes .entry)) (written (now (self .entry))) (written (now (self .exit))) ⌝ }
+        ensures room { λ r. ⌜ Falls r (length (now (bytes .entry))) (room (now (self .entry))) (room (now (self .exit))) ⌝ }
+        ensures waiting { λ _. ⌜ waiting (now (self .exit)) ≡ waiting (now (self .entry)) ⌝ };
+}
