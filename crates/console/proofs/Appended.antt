@@ -2,7 +2,8 @@
 use mathlib.Core.Path.{_≡_, sym, ap, _∙_}
 use mathlib.Core.List.{List, [], _∷_, _++_, append-assoc}
 use Prim.Native.Nat.{ℕ, _+_, _<_, _≤_}
-use lib.ListN.{length, take, getD}
+use lib.ListN.{length, take, getD, length-append, length-take}
+use native.Mathlib.Omega.{arith}
 use lib.Seq.{take-all}
 use Rattle.std.proofs.shelf.Lists.{take-more}
 
@@ -12,3 +13,6 @@ appended-more old so-far more xs i d h e f =
 
 pub appended-all : {A : Type 0} (old so-far xs : List A) (i : ℕ) → length xs ≤ i → so-far ≡ old ++ take i xs → so-far ≡ old ++ xs
 appended-all old so-far xs i h e = e ∙ ap (λ l. old ++ l) (take-all i xs h)
+
+pub length-appended : {A : Type 0} (old so-far xs : List A) (i : ℕ) → i ≤ length xs → so-far ≡ old ++ take i xs → length so-far ≡ length old + i
+length-appended old so-far xs i h e = ap length e ∙ simp (length-append, length-take) (omega arith)

@@ -6,24 +6,29 @@ use lib.IntN.{ℤ}
 use Rattle.std.specs.declared.result.Result.{Result}
 use Rattle.std.specs.declared.result.Result.the-variants.{Ok, Err}
 use Rattle.outcomes.specs.declared.Refusal.{Refusal}
-use Rattle.outcomes.specs.declared.Refusal.the-variants.{NoWordWaiting, NoRoom}
+use Rattle.outcomes.specs.declared.Refusal.the-variants.{NoWordWaiting, NoRoom, InputFull}
 
--- take: the first word leaves and is given; it is refused exactly if none waits, and nothing changes
+-- take: the first word leaves and is given; it is refused exactly if none waits, and then none waits after
 abbrev pub Takes : Result ℤ Refusal → List ℤ → List ℤ → Type 0
-Takes (Ok w) before after = before ≡ w ∷ after
-Takes (Err e) before after = (e ≡ NoWordWaiting) × (before ≡ []) × (after ≡ [])
+Takes (Ok word) before after = before ≡ word ∷ after
+Takes (Err why) before after = (why ≡ NoWordWaiting) × (before ≡ []) × (after ≡ [])
 
 -- put: it is refused exactly if the bytes are more than the room
-abbrev pub Answers : Result (Unit {0}) Refusal → ℕ → ℕ → Type 0
-Answers (Ok _) count room = count ≤ room
-Answers (Err e) count room = (e ≡ NoRoom) × (room < count)
+abbrev pub Fits : Result (Unit {0}) Refusal → ℕ → ℕ → Type 0
+Fits (Ok _) count room = count ≤ room
+Fits (Err why) count room = (why ≡ NoRoom) × (room < count)
 
--- put: all bytes are appended to those written, or none
-abbrev pub Appends : Result (Unit {0}) Refusal → List ℕ → List ℕ → List ℕ → Type 0
-Appends (Ok _) bytes before after = after ≡ before ++ bytes
-Appends (Err _) bytes before after = after ≡ before
-
--- put: the room falls by the number of bytes that were appended
+-- put: the room falls by the number of bytes, or stays
 abbrev pub Falls : Result (Unit {0}) Refusal → ℕ → ℕ → ℕ → Type 0
 Falls (Ok _) count before after = before ≡ after + count
 Falls (Err _) count before after = after ≡ before
+
+-- feed: it is refused exactly if as many words wait as can
+abbrev pub HasPlace : Result (Unit {0}) Refusal → ℕ → ℕ → Type 0
+HasPlace (Ok _) waiting places = waiting < places
+HasPlace (Err why) waiting places = (why ≡ InputFull) × (waiting ≡ places)
+
+-- put and feed: all the new items come behind the old ones, or none of them
+abbrev pub Appends : {A : Type 0} → Result (Unit {0}) Refusal → List A → List A → List A → Type 0
+Appends (Ok _) new before after = after ≡ before ++ new
+Appends (Err _) new before after = after ≡ before

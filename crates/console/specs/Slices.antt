@@ -5,7 +5,7 @@ use Prim.Native.Nat.{ℕ, _-_}
 use lib.IntN.{ℤ}
 use lib.ListN.{length, take, drop}
 use denote.Ref.{now}
-use Rattle.console.specs.declared.slices.SliceConsole.{SliceConsole}
+use Rattle.console.specs.declared.slice_console.SliceConsole.{SliceConsole}
 
 -- the words that wait: the lent list without those taken
 abbrev pub waitingIn : SliceConsole → List ℤ

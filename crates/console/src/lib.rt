@@ -2,19 +2,25 @@
 // Promises what each call of a console takes, writes, refuses and leaves untouched.
 // Does not say what the words and bytes mean, and allocates nothing.
 //
-// src/slices.rt: a console over lent memory.
-// specs/Calls.antt: what the calls do.
-mod slices;
+// src/slice_console.rt, src/slice_console/calls.rt: a console over lent memory.
+// src/ring.rt, src/ring/calls.rt: a ring, which keeps items in their order.
+// src/ring_console.rt: a console that owns two rings, which the host feeds and drains.
+// specs/Calls.antt: what the calls do. specs/Slices.antt, specs/Rings.antt: what each console holds.
+mod ring;
+mod ring_console;
+mod slice_console;
 
 use outcomes::Refusal;
-pub use slices::SliceConsole;
-pub use slices::calls::ConsoleOfSlices;
+pub use ring_console::ConsoleOfRings;
+pub use ring_console::RingConsole;
+pub use slice_console::SliceConsole;
+pub use slice_console::calls::ConsoleOfSlices;
 ghost use Prim.Native.Nat.{ℕ};
 ghost use lib.IntN.{ℤ};
 ghost use lib.ListN.{length};
 ghost use mathlib.Core.List.{List};
 ghost use mathlib.Core.Path.{_≡_};
-ghost use Rattle.console.specs.Calls.{Appends, Answers, Falls, Takes};
+ghost use Rattle.console.specs.Calls.{Appends, Falls, Fits, Takes};
 
 // Console is where a program takes its words from and puts its bytes.
 pub trait Console {
@@ -43,7 +49,7 @@ pub trait Console {
 
     // put writes all of the bytes, or none of them.
     fn put(&mut self, bytes: &[u8]) -> Result<(), Refusal>
-        ensures answers { λ r. ⌜ Answers r (length (now (bytes .entry))) (room (now (self .entry))) ⌝ }
+        ensures fits { λ r. ⌜ Fits r (length (now (bytes .entry))) (room (now (self .entry))) ⌝ }
         ensures written { λ r. ⌜ Appends r (now (bytes .entry)) (written (now (self .entry))) (written (now (self .exit))) ⌝ }
         ensures room { λ r. ⌜ Falls r (length (now (bytes .entry))) (room (now (self .entry))) (room (now (self .exit))) ⌝ }
         ensures waiting { λ _. ⌜ waiting (now (self .exit)) ≡ waiting (now (self .entry)) ⌝ };

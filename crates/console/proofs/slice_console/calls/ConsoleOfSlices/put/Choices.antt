@@ -3,7 +3,7 @@ use mathlib.Core.List.{_++_}
 use Prim.Native.Nat.{_+_}
 use lib.ListN.{length, take, drop}
 use Rattle.console.specs.Slices.{waitingIn, writtenIn}
-use Rattle.console.proofs.slices.calls.ConsoleOfSlices.put.Given as given
+use Rattle.console.proofs.slice_console.calls.ConsoleOfSlices.put.Given as given
 
 abbrev pub Inv-loop-byte : given.InvT-loop-byte
 Inv-loop-byte l =

@@ -9,7 +9,7 @@ use mir.Syntax.{w32}
 use mir.Val.{SFits}
 use Rattle.std.proofs.shelf.Lists.{drop-more, drop-all}
 use Rattle.std.proofs.shelf.Signed.{toZ-ofZ}
-use Rattle.console.proofs.slices.calls.ConsoleOfSlices.take.Needs as need
+use Rattle.console.proofs.slice_console.calls.ConsoleOfSlices.take.Needs as need
 
 pub returns : need.returns
 returns c =

@@ -4,7 +4,7 @@ use lib.ListN.{getD, length-set}
 use Rattle.std.proofs.shelf.Lists.{take-more-set}
 use Rattle.console.specs.Slices.{writtenIn}
 use Rattle.console.proofs.Appended.{appended-more, appended-all}
-use Rattle.console.proofs.slices.calls.ConsoleOfSlices.put.Needs as need
+use Rattle.console.proofs.slice_console.calls.ConsoleOfSlices.put.Needs as need
 
 pub loop-byte-again : need.loop-byte-again
 loop-byte-again c =
@@ -21,7 +21,7 @@ loop-byte-again c =
 pub returns : need.returns
 returns c =
     record {
-      answers = omega arith;
+      fits = omega arith;
       written = appended-all _ (writtenIn (c .loop-byte .self)) (c .args .bytes .now) (c .loop-byte .byte-index) (c .loop-byte-test .left) (c .loop-byte .inv .3);
       room = omega arith;
       waiting = c .loop-byte .inv .0;

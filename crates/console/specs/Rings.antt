@@ -1,0 +1,49 @@
+-- What a ring holds, and what a console over two rings holds.
+use mathlib.Core.List.{List, [], _∷_, _++_}
+use mathlib.Core.Bool.{cond}
+use mathlib.Core.Path.{_≡_}
+use Prim.Native.Nat.{ℕ, _-_}
+use lib.Dec.{ltb}
+use lib.IntN.{ℤ}
+use lib.ListN.{length, take, drop}
+use Rattle.std.specs.declared.option.Option.{Option}
+use Rattle.std.specs.declared.option.Option.the-variants.{Some, None}
+use Rattle.console.specs.declared.ring.Ring.{Ring}
+use Rattle.console.specs.declared.ring_console.RingConsole.{RingConsole}
+
+-- the items at all places of a ring, read round from its first place
+abbrev pub round : {A : Type 0} → ℕ → List A → List A
+round first items = drop first items ++ take first items
+
+-- the items of a ring, the oldest first
+abbrev pub held : {A : Type 0} {n : ℕ} → Ring A n → List A
+held ring = take (ring .count) (round (ring .first) (ring .items))
+
+-- a place counted past the end of n places, counted from the start again
+abbrev pub wrapped : ℕ → ℕ → ℕ
+wrapped n place = cond (ltb place n) place (place - n)
+
+-- pop: the oldest item leaves and is given, or there is none
+abbrev pub Pops : {A : Type 0} → Option A → List A → List A → Type 0
+Pops (Some item) before after = before ≡ item ∷ after
+Pops None before after = (before ≡ []) × (after ≡ [])
+
+-- how many words can wait
+abbrev pub wordPlaces : ℕ
+wordPlaces = 256
+
+-- how many bytes can be written and not drained
+abbrev pub bytePlaces : ℕ
+bytePlaces = 512
+
+-- the words that wait
+abbrev pub waitingIn : RingConsole → List ℤ
+waitingIn console = held (console .input)
+
+-- the bytes written and not drained
+abbrev pub writtenIn : RingConsole → List ℕ
+writtenIn console = held (console .output)
+
+-- how many bytes more fit
+abbrev pub roomIn : RingConsole → ℕ
+roomIn console = bytePlaces - length (writtenIn console)
