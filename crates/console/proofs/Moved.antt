@@ -11,8 +11,11 @@ pub more-left : {A : Type 0} (xs rest : List A) (x : A) (i : ℕ) → drop i xs 
 more-left xs rest x i e = omega (arith, simp length-drop at (ap length e))
 
 -- when none is left, there are at most i
-pub none-left : {A : Type 0} (xs : List A) (i : ℕ) → drop i xs ≡ [] → length xs ≤ i
-none-left xs i e = omega (arith, simp length-drop at (ap length e))
+pub none-left : {A : Type 0} (xs left : List A) (i : ℕ) → left ≡ drop i xs → left ≡ [] → length xs ≤ i
+none-left xs left i e f = omega (arith, simp length-drop at (ap length (sym e ∙ f)))
+
+pub still-none : {A : Type 0} (xs left after : List A) (i : ℕ) → left ≡ drop i xs → left ≡ [] → after ≡ [] → after ≡ drop i xs
+still-none xs left after i e f g = cc
 
 pub rest-is : {A : Type 0} (xs rest : List A) (x : A) (i : ℕ) → drop i xs ≡ x ∷ rest → rest ≡ drop (i + 1) xs
 rest-is xs rest x i e = let f = drop-more xs i x (more-left xs rest x i e) in cc

@@ -2,12 +2,16 @@
 use mathlib.Core.List.{List, [], _∷_, _++_}
 use mathlib.Core.Bool.{cond}
 use mathlib.Core.Path.{_≡_}
-use Prim.Native.Nat.{ℕ, _-_}
+use Prim.Native.Nat.{ℕ, _-_, _<_}
 use lib.Dec.{ltb}
 use lib.IntN.{ℤ}
 use lib.ListN.{length, take, drop}
 use Rattle.std.specs.declared.option.Option.{Option}
 use Rattle.std.specs.declared.option.Option.the-variants.{Some, None}
+use Rattle.std.specs.declared.result.Result.{Result}
+use Rattle.std.specs.declared.result.Result.the-variants.{Ok, Err}
+use Rattle.outcomes.specs.declared.Refusal.{Refusal}
+use Rattle.outcomes.specs.declared.Refusal.the-variants.{InputFull}
 use Rattle.console.specs.declared.ring.Ring.{Ring}
 use Rattle.console.specs.declared.ring_console.RingConsole.{RingConsole}
 
@@ -37,13 +41,18 @@ abbrev pub bytePlaces : ℕ
 bytePlaces = 512
 
 -- the words that wait
-abbrev pub waitingIn : RingConsole → List ℤ
-waitingIn console = held (console .input)
+abbrev pub waiting : RingConsole → List ℤ
+waiting console = held (console .input)
 
 -- the bytes written and not drained
-abbrev pub writtenIn : RingConsole → List ℕ
-writtenIn console = held (console .output)
+abbrev pub written : RingConsole → List ℕ
+written console = held (console .output)
 
 -- how many bytes more fit
-abbrev pub roomIn : RingConsole → ℕ
-roomIn console = bytePlaces - length (writtenIn console)
+abbrev pub room : RingConsole → ℕ
+room console = bytePlaces - length (written console)
+
+-- feed: the word waits behind the others; it is refused exactly if as many wait as can, and these stay
+abbrev pub Feeds : Result (Unit {0}) Refusal → ℤ → List ℤ → List ℤ → Type 0
+Feeds (Ok _) word before after = (length before < wordPlaces) × (after ≡ before ++ word ∷ [])
+Feeds (Err why) word before after = (why ≡ InputFull) × (length before ≡ wordPlaces) × (after ≡ before)

@@ -7,18 +7,27 @@ use lib.ListN.{length, take, drop}
 use denote.Ref.{now}
 use Rattle.console.specs.declared.slice_console.SliceConsole.{SliceConsole}
 
--- the words that wait: the lent list without those taken
-abbrev pub waitingIn : SliceConsole → List ℤ
-waitingIn s = drop (s .taken) (now (s .words))
+-- the lent list of words
+abbrev pub lentWords : SliceConsole → List ℤ
+lentWords console = now (console .words)
 
--- the bytes written: the first ones of the lent buffer
-abbrev pub writtenIn : SliceConsole → List ℕ
-writtenIn s = take (s .filled) (now (s .buffer))
+-- what the lent buffer holds
+abbrev pub lentBytes : SliceConsole → List ℕ
+lentBytes console = now (console .buffer)
+
+-- the words that wait: the lent ones without those taken
+abbrev pub waiting : SliceConsole → List ℤ
+waiting console = drop (console .taken) (lentWords console)
+
+-- the bytes written: the first ones of the buffer
+abbrev pub written : SliceConsole → List ℕ
+written console = take (console .filled) (lentBytes console)
 
 -- how many bytes more fit: the rest of the buffer
-abbrev pub roomIn : SliceConsole → ℕ
-roomIn s = length (now (s .buffer)) - s .filled
+abbrev pub room : SliceConsole → ℕ
+room console = length (lentBytes console) - console .filled
 
--- the bytes of the buffer behind those written are as they were
-abbrev pub RestStays : SliceConsole → SliceConsole → Type 0
-RestStays before after = drop (after .filled) (now (after .buffer)) ≡ drop (after .filled) (now (before .buffer))
+-- what a call leaves as it was: the lent words, and the bytes of the buffer behind those written
+pub record LeavesLent (before after : SliceConsole) : Type 0 where
+  pub words : lentWords after ≡ lentWords before
+  pub rest : drop (after .filled) (lentBytes after) ≡ drop (after .filled) (lentBytes before)

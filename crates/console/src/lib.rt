@@ -20,7 +20,7 @@ ghost use lib.IntN.{ℤ};
 ghost use lib.ListN.{length};
 ghost use mathlib.Core.List.{List};
 ghost use mathlib.Core.Path.{_≡_};
-ghost use Rattle.console.specs.Calls.{Appends, Falls, Fits, Takes};
+ghost use Rattle.console.specs.Calls.{Fits, Puts, Takes};
 
 // Console is where a program takes its words from and puts its bytes.
 pub trait Console {
@@ -49,8 +49,10 @@ pub trait Console {
 
     // put writes all of the bytes, or none of them.
     fn put(&mut self, bytes: &[u8]) -> Result<(), Refusal>
-        ensures fits { λ r. ⌜ Fits r (length (now (bytes .entry))) (room (now (self .entry))) ⌝ }
-        ensures written { λ r. ⌜ Appends r (now (bytes .entry)) (written (now (self .entry))) (written (now (self .exit))) ⌝ }
-        ensures room { λ r. ⌜ Falls r (length (now (bytes .entry))) (room (now (self .entry))) (room (now (self .exit))) ⌝ }
+        ensures puts { λ r. ⌜ Puts r (now (bytes .entry)) (written (now (self .entry))) (written (now (self .exit))) ⌝ }
+        ensures room { λ r. ⌜ Fits r (now (bytes .entry)) (room (now (self .entry))) (room (now (self .exit))) ⌝ }
         ensures waiting { λ _. ⌜ waiting (now (self .exit)) ≡ waiting (now (self .entry)) ⌝ };
 }
+
+#[cfg(test)]
+mod tests;

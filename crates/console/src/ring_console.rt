@@ -3,10 +3,9 @@ use crate::ring::Ring;
 use outcomes::Refusal;
 ghost use Prim.Native.Nat.{_+_, min};
 ghost use lib.ListN.{drop, length, take};
-ghost use mathlib.Core.List.{[], _++_, _∷_};
+ghost use mathlib.Core.List.{[], _++_};
 ghost use mathlib.Core.Path.{_≡_};
-ghost use Rattle.console.specs.Calls.{Appends, HasPlace};
-ghost use Rattle.console.specs.Rings.{bytePlaces, roomIn, waitingIn, wordPlaces, writtenIn};
+ghost use Rattle.console.specs.Rings.{Feeds, bytePlaces, room, waiting, written};
 
 const WORDS: usize = 256;
 
@@ -22,9 +21,9 @@ pub struct RingConsole {
 impl RingConsole {
     // new makes a console where no word waits and nothing is written.
     pub fn new() -> RingConsole
-        ensures waiting { λ r. ⌜ waitingIn r ≡ [] ⌝ }
-        ensures written { λ r. ⌜ writtenIn r ≡ [] ⌝ }
-        ensures room { λ r. ⌜ roomIn r ≡ bytePlaces ⌝ }
+        ensures waiting { λ r. ⌜ waiting r ≡ [] ⌝ }
+        ensures written { λ r. ⌜ written r ≡ [] ⌝ }
+        ensures room { λ r. ⌜ room r ≡ bytePlaces ⌝ }
     {
         RingConsole {
             input: Ring::new(0),
@@ -34,10 +33,9 @@ impl RingConsole {
 
     // feed lets a word wait behind the others, if there is a place.
     pub fn feed(&mut self, word: i32) -> Result<(), Refusal>
-        ensures place { λ r. ⌜ HasPlace r (length (waitingIn (now (self .entry)))) wordPlaces ⌝ }
-        ensures waiting { λ r. ⌜ Appends r (word ∷ []) (waitingIn (now (self .entry))) (waitingIn (now (self .exit))) ⌝ }
-        ensures written { λ _. ⌜ writtenIn (now (self .exit)) ≡ writtenIn (now (self .entry)) ⌝ }
-        ensures room { λ _. ⌜ roomIn (now (self .exit)) ≡ roomIn (now (self .entry)) ⌝ }
+        ensures feeds { λ r. ⌜ Feeds r word (waiting (now (self .entry))) (waiting (now (self .exit))) ⌝ }
+        ensures written { λ _. ⌜ written (now (self .exit)) ≡ written (now (self .entry)) ⌝ }
+        ensures room { λ _. ⌜ room (now (self .exit)) ≡ room (now (self .entry)) ⌝ }
     {
         if self.input.len() == WORDS {
             return Err(Refusal::InputFull);
@@ -48,11 +46,11 @@ impl RingConsole {
 
     // drain moves the oldest bytes into the front of `out`, as many as there are or as it holds.
     pub fn drain(&mut self, out: &mut [u8]) -> usize
-        ensures count { λ r. ⌜ r ≡ min (length (writtenIn (now (self .entry)))) (length (now (out .entry))) ⌝ }
-        ensures out { λ r. ⌜ now (out .exit) ≡ take r (writtenIn (now (self .entry))) ++ drop r (now (out .entry)) ⌝ }
-        ensures written { λ r. ⌜ writtenIn (now (self .exit)) ≡ drop r (writtenIn (now (self .entry))) ⌝ }
-        ensures room { λ r. ⌜ roomIn (now (self .exit)) ≡ roomIn (now (self .entry)) + r ⌝ }
-        ensures waiting { λ _. ⌜ waitingIn (now (self .exit)) ≡ waitingIn (now (self .entry)) ⌝ }
+        ensures count { λ r. ⌜ r ≡ min (length (written (now (self .entry)))) (length (now (out .entry))) ⌝ }
+        ensures out { λ r. ⌜ now (out .exit) ≡ take r (written (now (self .entry))) ++ drop r (now (out .entry)) ⌝ }
+        ensures written { λ r. ⌜ written (now (self .exit)) ≡ drop r (written (now (self .entry))) ⌝ }
+        ensures room { λ r. ⌜ room (now (self .exit)) ≡ room (now (self .entry)) + r ⌝ }
+        ensures waiting { λ _. ⌜ waiting (now (self .exit)) ≡ waiting (now (self .entry)) ⌝ }
     {
         for (i, place) in out.iter_mut().enumerate() {
             match self.output.pop() {
@@ -65,11 +63,11 @@ impl RingConsole {
 }
 
 pub impl Console for RingConsole as ConsoleOfRings {
-    ghost waiting = { waitingIn };
+    ghost waiting = { waiting };
 
-    ghost written = { writtenIn };
+    ghost written = { written };
 
-    ghost room = { roomIn };
+    ghost room = { room };
 
     fn words_waiting(&self) -> usize {
         self.input.len()

@@ -6,10 +6,10 @@ ghost use lib.ListN.{length};
 
 // SliceConsole takes its words from a lent list and writes into a lent buffer.
 #[derive(Drop)]
-pub struct SliceConsole<'a> {
-    words: &'a [i32],
+pub struct SliceConsole<'w, 'b> {
+    words: &'w [i32],
     taken: usize,
-    buffer: &'a mut [u8],
+    buffer: &'b mut [u8],
     filled: usize,
     ghost taken_within: { taken ≤ length (now words) },
     ghost filled_within: { filled ≤ length (now buffer) },

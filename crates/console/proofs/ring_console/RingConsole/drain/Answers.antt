@@ -5,15 +5,15 @@ use Prim.Native.Nat.{_≤_}
 use native.Mathlib.Omega.{arith}
 use lib.ListN.{length, drop, length-drop}
 use Rattle.std.proofs.shelf.Lists.{set-getD}
-use Rattle.console.specs.Rings.{held, writtenIn}
-use Rattle.console.proofs.Moved.{more-left, none-left, rest-is, moved-more}
+use Rattle.console.specs.Rings.{held, written}
+use Rattle.console.proofs.Moved.{more-left, moved-more, none-left, rest-is, still-none}
 use Rattle.console.proofs.Rounds.{held-within}
 use Rattle.console.proofs.ring_console.RingConsole.drain.Needs as need
 
 pub loop-i-again : need.loop-i-again
 loop-i-again c =
     let i = c .loop-i .i in
-    let old = writtenIn (c .args .self .now) in
+    let old = written (c .args .self .now) in
     let left = held (c .pop .last .self) in
     let byte = c .in-Some .byte in
     let e = sym (c .loop-i .inv .2) ∙ c .in-Some .ensures tt in
@@ -27,16 +27,18 @@ loop-i-again c =
 pub returns-in-None : need.returns-in-None
 returns-in-None c =
     let i = c .loop-i .i in
-    let old = writtenIn (c .args .self .now) in
+    let old = written (c .args .self .now) in
+    let left = held (c .loop-i .self .output) in
+    let after = held (c .pop .last .self) in
     let none = c .in-None .ensures tt in
-    let e : drop i old ≡ [] = sym (c .loop-i .inv .2) ∙ none .0 in
-    let all : length old ≤ i = none-left old i e in
+    let all = none-left old left i (c .loop-i .inv .2) (none .0) in
+    let same = still-none old left after i (c .loop-i .inv .2) (none .0) (none .1) in
     let within = held-within (c .args .self .now .output) in
-    let l = ap length (none .1) in
+    let l = simp length-drop at (ap length same) in
     record {
       count = omega arith;
       out = set-getD (c .loop-i .out) i 0 ∙ c .loop-i .inv .3;
-      written = none .1 ∙ sym e;
+      written = same;
       room = omega arith;
       waiting = c .loop-i .inv .0;
     }

@@ -17,10 +17,10 @@ returns c =
     let xs = s .words .now in
     let f : SFits w32 (getD xs (s .taken) (pos 0)) = search needs in
     let e = drop-more xs (s .taken) (pos 0) (omega arith) in
-    record { takes = e ∙ ap (λ w. w ∷ drop (s .taken + 1) xs) (sym (toZ-ofZ w32 _ f)); written = refl; room = refl }
+    record { takes = e ∙ ap (λ w. w ∷ drop (s .taken + 1) xs) (sym (toZ-ofZ w32 _ f)); written = refl; room = refl; lent = record { words = refl; rest = refl } }
 
 pub returns-then-self : need.returns-then-self
 returns-then-self c =
     let s = c .args .self .now in
     let d : drop (s .taken) (s .words .now) ≡ [] = drop-all (s .taken) (s .words .now) (omega arith) in
-    record { takes = (refl, d, d); written = refl; room = refl }
+    record { takes = (refl, d, d); written = refl; room = refl; lent = record { words = refl; rest = refl } }
