@@ -1,5 +1,5 @@
 -- A ring read round from its first place: one item more behind the others, and one less in front.
-use mathlib.Core.Path.{_≡_, refl, sym, ap, _∙_}
+use mathlib.Core.Path.{_≡_, sym, ap, _∙_}
 use mathlib.Core.List.{List, [], _∷_, _++_, append-assoc, append-nil}
 use Prim.Native.Nat.{ℕ, zero, suc, _+_, _-_, _<_, _≤_}
 use native.Mathlib.Omega.{arith}
@@ -8,16 +8,18 @@ use lib.Seq.{take-set-le, take-set-lt, take-append-le}
 use Rattle.std.proofs.shelf.Lists.{take-more-set, take-more, drop-more, drop-all, take-all, drop-set-add, drop-set-lt, set-append-left, set-append-right}
 use Rattle.std.proofs.shelf.Tests.{cond-both, ltb-true, ltb-false}
 use lib.Dec.{ltb}
-use Rattle.console.specs.Rings.{held, round, wrapped}
+use Rattle.console.specs.Rounds.{held, round, wrapped}
 use Rattle.console.specs.declared.ring.Ring.{Ring}
 
+-- reading round from any place finds as many items as there are places
 pub length-round : {A : Type 0} (f : ℕ) (xs : List A) → f ≤ length xs → length (round f xs) ≡ length xs
 length-round f xs h = simp (length-append, length-take, length-drop) (omega arith)
 
+-- a ring with n items holds n
 pub length-held : {A : Type 0} (f n : ℕ) (xs : List A) → f ≤ length xs → n ≤ length xs → length (take n (round f xs)) ≡ n
 length-held f n xs h g = let e = length-round f xs h in simp length-take (omega arith)
 
--- a write before the end and one past it, at the place of the n-th item from the first
+-- the same, where that place lies before the end, and where it lies past it
 set-below : {A : Type 0} (f n : ℕ) (xs : List A) (v : A) → f + n < length xs → round f (set xs (f + n) v) ≡ set (round f xs) n v
 set-below f n xs v h =
     let short : n < length (drop f xs) = simp length-drop (omega arith) in
@@ -34,6 +36,7 @@ set-past f n k xs v h e g =
     ∙ ap (λ i. drop f xs ++ set (take f xs) i v) (sym m)
     ∙ sym (set-append-right (drop f xs) (take f xs) (length xs - f) n v long (omega arith))
 
+-- a write at the place of the n-th item from the first, wherever it is
 pub round-set : {A : Type 0} (f n : ℕ) (xs : List A) (v : A) → f < length xs → n < length xs → round f (set xs (wrapped (length xs) (f + n)) v) ≡ set (round f xs) n v
 round-set f n xs v h g =
     cond-both (ltb (f + n) (length xs)) (f + n) (f + n - length xs) (λ k. round f (set xs k v) ≡ set (round f xs) n v)

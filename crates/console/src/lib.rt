@@ -2,10 +2,15 @@
 // Promises what each call of a console takes, writes, refuses and leaves untouched.
 // Does not say what the words and bytes mean, and allocates nothing.
 //
-// src/slice_console.rt, src/slice_console/calls.rt: a console over lent memory.
-// src/ring.rt, src/ring/calls.rt: a ring, which keeps items in their order.
+// src/slice_console.rt: a console over lent memory; src/slice_console/calls.rt has its calls.
+// src/ring.rt: items in the order in which they came; src/ring/calls.rt has the calls of a ring.
 // src/ring_console.rt: a console that owns two rings, which the host feeds and drains.
-// specs/Calls.antt: what the calls do. specs/Slices.antt, specs/Rings.antt: what each console holds.
+// src/tests.rt: a worked example of each.
+// specs/Calls.antt: what take and put do, on any console.
+// specs/Slices.antt: what a console over lent memory holds.
+// specs/Rounds.antt: what a ring holds.
+// specs/Rings.antt: what a console over two rings holds, and what feed does.
+// proofs/: the laws of a ring, and of loops that append or move items.
 mod ring;
 mod ring_console;
 mod slice_console;

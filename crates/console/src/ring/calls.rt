@@ -3,7 +3,7 @@ ghost use Prim.Native.Nat.{_+_, _<_, _≤_};
 ghost use mathlib.Core.List.{[], _∷_, _++_};
 ghost use lib.ListN.{length};
 ghost use mathlib.Core.Path.{_≡_};
-ghost use Rattle.console.specs.Rings.{held, wrapped, Pops};
+ghost use Rattle.console.specs.Rounds.{Pops, held, wrapped};
 
 impl<T: Copy, const N: usize> Ring<T, N> {
     // new makes an empty ring; the filler stands where no item is.

@@ -1,21 +1,18 @@
 use borrow.Author.Needs.{needs}
-use mathlib.Core.Path.{_≡_, sym}
 use native.Mathlib.Omega.{arith}
-use Prim.Native.Nat.{_<_}
-use lib.ListN.{length, length-set}
 use Rattle.console.proofs.Rounds.{length-held, round-push}
 use Rattle.console.proofs.ring.Ring.push.Needs as need
 
 pub add-self : need.add-self
 add-self g c =
     let s = c .args .self .now in
-    let e = length-held (s .first) (s .count) (s .items) (omega arith) (omega arith) in
+    let n = length-held (s .first) (s .count) (s .items) (omega arith) (omega arith) in
     search needs
 
 pub ghost-self : need.ghost-self
 ghost-self g c =
     let s = c .args .self .now in
-    let e = length-held (s .first) (s .count) (s .items) (omega arith) (omega arith) in
+    let n = length-held (s .first) (s .count) (s .items) (omega arith) (omega arith) in
     search needs
 
 pub returns : need.returns

@@ -1,11 +1,9 @@
-use borrow.Author.Needs.{needs}
 use mathlib.Core.Path.{_≡_, ap, sym, _∙_}
-use mathlib.Core.List.{[]}
-use Prim.Native.Nat.{_≤_}
 use native.Mathlib.Omega.{arith}
-use lib.ListN.{length, drop, length-drop}
+use lib.ListN.{length, length-drop}
 use Rattle.std.proofs.shelf.Lists.{set-getD}
-use Rattle.console.specs.Rings.{held, written}
+use Rattle.console.specs.Rings.{written}
+use Rattle.console.specs.Rounds.{held}
 use Rattle.console.proofs.Moved.{more-left, moved-more, none-left, rest-is, still-none}
 use Rattle.console.proofs.Rounds.{held-within}
 use Rattle.console.proofs.ring_console.RingConsole.drain.Needs as need
