@@ -1,0 +1,4 @@
+pub mod Calls
+pub mod Rings
+pub mod Rounds
+pub mod Slices

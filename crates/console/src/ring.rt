@@ -1,0 +1,16 @@
+pub mod calls;
+
+ghost use Prim.Native.Nat.{_<_, _≤_};
+ghost use lib.ListN.{length};
+ghost use mathlib.Core.Path.{_≡_};
+
+// Ring holds up to N items, in the order in which they were pushed; the place of a popped one is used again.
+#[derive(Drop)]
+pub struct Ring<T, const N: usize> {
+    items: [T; N],
+    first: usize,
+    count: usize,
+    ghost full_length: { length items ≡ N },
+    ghost first_within: { first < N },
+    ghost count_within: { count ≤ N },
+}

@@ -1,0 +1,64 @@
+use super::Ring;
+ghost use Prim.Native.Nat.{_+_, _<_, _≤_};
+ghost use mathlib.Core.List.{[], _∷_, _++_};
+ghost use lib.ListN.{length};
+ghost use mathlib.Core.Path.{_≡_};
+ghost use Rattle.console.specs.Rounds.{Pops, held, wrapped};
+
+impl<T: Copy, const N: usize> Ring<T, N> {
+    // new makes an empty ring; the filler stands where no item is.
+    pub fn new(filler: T) -> Ring<T, N>
+        requires { ⌜ 0 < N ⌝ }
+        ensures { λ r. ⌜ held r ≡ [] ⌝ }
+    {
+        Ring {
+            items: [filler; N],
+            first: 0,
+            count: 0,
+        }
+    }
+
+    // len is the number of items.
+    pub fn len(&self) -> usize
+        ensures count { λ r. ⌜ r ≡ length (held (now (self .entry))) ⌝ }
+        ensures within { λ r. ⌜ r ≤ N ⌝ }
+    {
+        self.count
+    }
+
+    // push adds an item behind the others.
+    pub fn push(&mut self, item: T)
+        requires { ⌜ length (held (now self)) < N ⌝ }
+        ensures { λ _. ⌜ held (now (self .exit)) ≡ held (now (self .entry)) ++ item ∷ [] ⌝ }
+    {
+        let at = self.place(self.count);
+        self.items[at] = item;
+        self.count += 1;
+    }
+
+    // pop removes the oldest item.
+    pub fn pop(&mut self) -> Option<T>
+        ensures { λ r. ⌜ Pops r (held (now (self .entry))) (held (now (self .exit))) ⌝ }
+    {
+        if self.count == 0 {
+            return None;
+        }
+        let item = self.items[self.first];
+        self.first = self.place(1);
+        self.count -= 1;
+        Some(item)
+    }
+
+    // place is where the item stands that comes `steps` behind the oldest one.
+    fn place(&self, steps: usize) -> usize
+        requires { ⌜ steps ≤ N ⌝ }
+        ensures { λ r. ⌜ r ≡ wrapped N (now (self .entry) .first + steps) ⌝ }
+    {
+        let to_end = N - self.first;
+        if steps < to_end {
+            self.first + steps
+        } else {
+            steps - to_end
+        }
+    }
+}
