@@ -1,0 +1,6 @@
+pub mod State
+pub mod Stacks
+pub mod Arrays
+pub mod Calls
+pub mod Perform
+pub mod Promises
