@@ -1,3 +1,4 @@
 pub mod Elements
+pub mod Fetching
 pub mod Stacking
 pub mod Written

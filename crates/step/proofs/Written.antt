@@ -26,11 +26,11 @@ block-written xs body zs ys ws at k n zeros first fits long ek en ey ew =
     let rest = drop (length body) (drop (at + 1) xs) in
     let reach : length front ≡ at + 1 + length body = simp (length-append, length-take) (omega arith) in
     let one : putMid (at + 1) k (set xs at first) ys ≡ front ++ rest =
-        ap (λ j. putMid (at + 1) j (set xs at first) ys) ek ∙ ap (λ l. putMid (at + 1) (length body) (set xs at first) l) ey ∙
-        first-word xs at first body (length body) (omega arith) ∙ sym (append-assoc (take at xs ++ first ∷ []) body rest) in
+    ap (λ j. putMid (at + 1) j (set xs at first) ys) ek ∙ ap (λ l. putMid (at + 1) (length body) (set xs at first) l) ey ∙
+    first-word xs at first body (length body) (omega arith) ∙ sym (append-assoc (take at xs ++ first ∷ []) body rest) in
     let behind : drop zeros rest ≡ drop (at + length (first ∷ (body ++ zs))) xs =
-        drop-drop zeros (length body) (drop (at + 1) xs) ∙ drop-drop (length body + zeros) (at + 1) xs ∙
-        ap (λ j. drop j xs) (simp length-append (omega arith)) in
+    drop-drop zeros (length body) (drop (at + 1) xs) ∙ drop-drop (length body + zeros) (at + 1) xs ∙
+    ap (λ j. drop j xs) (simp length-append (omega arith)) in
     ap (λ l. putMid (at + 1 + length body) n l ws) one ∙ ap (λ j. putMid (at + 1 + length body) j (front ++ rest) ws) en ∙
     ap (λ l. putMid (at + 1 + length body) zeros (front ++ rest) l) ew ∙
     part-behind front zs zs rest (at + 1 + length body) zeros reach ∙

@@ -2,9 +2,10 @@
 use mathlib.Core.Bool.{cond}
 use mathlib.Core.Path.{_≡_}
 use mathlib.Core.List.{List}
-use Prim.Native.Nat.{ℕ, _-_}
+use Prim.Native.Nat.{ℕ, _-_, _<_, _≤_}
 use lib.Dec.{ltb}
 use lib.IntN.{ℤ, pos, negsuc}
+use lib.ListN.{length}
 use lib.Signed.{_≤ℤ_, _<ℤ_}
 use Rattle.std.specs.declared.option.Option.{Option}
 use Rattle.std.specs.declared.option.Option.the-variants.{Some, None}
@@ -24,36 +25,40 @@ use Rattle.step.specs.Stacks.{pushed}
 use Rattle.step.specs.Arrays.{element}
 use Rattle.step.specs.Perform.{perform}
 
+-- the state after a print: the value and the width have left the operand stack
+abbrev pub printedFrom : ℕ → State → State
+printedFrom next s = at (pos next) (withOperand (s .registers .height - 2) (s .operand) s)
+
 -- how an answer relates a step to the states before and after the call: only a step that is made changes anything
-abbrev pub Did : ℤ → Result Effect Verdict → Step → State → State → Type 0
-Did next (Ok Moved) step before after = step ≡ moves after
-Did next (Ok (Takes k)) step before after = (step ≡ takes (λ w. at next (pushed (kept k w) before))) × (after ≡ before)
-Did next (Ok (Writes k v w)) step before after = (step ≡ writes (printedAs k v w) (at next (withOperand (before .registers .height - 2) (before .operand) before))) × (after ≡ before)
-Did next (Err verdict) step before after = (step ≡ ends verdict) × (after ≡ before)
+abbrev pub Did : Result Effect Verdict → Step → State → State → Type 0
+Did (Ok Moved) step before after = step ≡ moves after
+Did (Ok (Takes k next)) step before after = (step ≡ takes (λ w. at (pos next) (pushed (kept k w) before))) × (before .registers .height < length (before .operand)) × (after ≡ before)
+Did (Ok (Writes k v w next)) step before after = (step ≡ writes (printedAs k v w) (printedFrom next before)) × (2 ≤ before .registers .height) × (after ≡ before)
+Did (Err verdict) step before after = (step ≡ ends verdict) × (after ≡ before)
 
 -- a function that is lent the registers alone
-abbrev pub OnRegisters : Instruction → ℤ → Result Effect Verdict → Registers → Registers → Type 0
-OnRegisters i next o r r′ = (d h c p : List ℤ) → Did next o (perform i next (state r d h c p)) (state r d h c p) (state r′ d h c p)
+abbrev pub OnRegisters : Instruction → ℕ → Result Effect Verdict → Registers → Registers → Type 0
+OnRegisters i next o r r′ = (d h c p : List ℤ) → Did o (perform i (pos next) (state r d h c p)) (state r d h c p) (state r′ d h c p)
 
 -- one that is lent the operand store too
-abbrev pub OnOperand : Instruction → ℤ → Result Effect Verdict → Registers → List ℤ → Registers → List ℤ → Type 0
-OnOperand i next o r p r′ p′ = (d h c : List ℤ) → Did next o (perform i next (state r d h c p)) (state r d h c p) (state r′ d h c p′)
+abbrev pub OnOperand : Instruction → ℕ → Result Effect Verdict → Registers → List ℤ → Registers → List ℤ → Type 0
+OnOperand i next o r p r′ p′ = (d h c : List ℤ) → Did o (perform i (pos next) (state r d h c p)) (state r d h c p) (state r′ d h c p′)
 
 -- the operand and the data store
-abbrev pub OnData : Instruction → ℤ → Result Effect Verdict → Registers → List ℤ → List ℤ → Registers → List ℤ → List ℤ → Type 0
-OnData i next o r d p r′ d′ p′ = (h c : List ℤ) → Did next o (perform i next (state r d h c p)) (state r d h c p) (state r′ d′ h c p′)
+abbrev pub OnData : Instruction → ℕ → Result Effect Verdict → Registers → List ℤ → List ℤ → Registers → List ℤ → List ℤ → Type 0
+OnData i next o r d p r′ d′ p′ = (h c : List ℤ) → Did o (perform i (pos next) (state r d h c p)) (state r d h c p) (state r′ d′ h c p′)
 
 -- the operand store and the heap
-abbrev pub OnHeap : Instruction → ℤ → Result Effect Verdict → Registers → List ℤ → List ℤ → Registers → List ℤ → List ℤ → Type 0
-OnHeap i next o r h p r′ h′ p′ = (d c : List ℤ) → Did next o (perform i next (state r d h c p)) (state r d h c p) (state r′ d h′ c p′)
+abbrev pub OnHeap : Instruction → ℕ → Result Effect Verdict → Registers → List ℤ → List ℤ → Registers → List ℤ → List ℤ → Type 0
+OnHeap i next o r h p r′ h′ p′ = (d c : List ℤ) → Did o (perform i (pos next) (state r d h c p)) (state r d h c p) (state r′ d h′ c p′)
 
 -- the operand and the call store
-abbrev pub OnCall : Instruction → ℤ → Result Effect Verdict → Registers → List ℤ → List ℤ → Registers → List ℤ → List ℤ → Type 0
-OnCall i next o r c p r′ c′ p′ = (d h : List ℤ) → Did next o (perform i next (state r d h c p)) (state r d h c p) (state r′ d h c′ p′)
+abbrev pub OnCall : Instruction → ℕ → Result Effect Verdict → Registers → List ℤ → List ℤ → Registers → List ℤ → List ℤ → Type 0
+OnCall i next o r c p r′ c′ p′ = (d h : List ℤ) → Did o (perform i (pos next) (state r d h c p)) (state r d h c p) (state r′ d h c′ p′)
 
 -- the call store alone
-abbrev pub OnCallAlone : Instruction → ℤ → Result Effect Verdict → Registers → List ℤ → Registers → List ℤ → Type 0
-OnCallAlone i next o r c r′ c′ = (d h p : List ℤ) → Did next o (perform i next (state r d h c p)) (state r d h c p) (state r′ d h c′ p)
+abbrev pub OnCallAlone : Instruction → ℕ → Result Effect Verdict → Registers → List ℤ → Registers → List ℤ → Type 0
+OnCallAlone i next o r c r′ c′ = (d h p : List ℤ) → Did o (perform i (pos next) (state r d h c p)) (state r d h c p) (state r′ d h c′ p)
 
 -- an integer as a place in a store of so many words
 abbrev pub placeIn : ℤ → ℕ → Option ℕ
@@ -68,3 +73,10 @@ InCode pc = (pos 0 ≤ℤ pc) × (pc <ℤ pos 8192)
 abbrev pub ElementFound : Kind → ℤ → ℤ → ℕ → List ℤ → Result Element Verdict → Type 0
 ElementFound kind reference index free heap (Ok e) = (go : ℕ → ℕ → Step) → element kind reference index free heap go ≡ go (e .word) (e .index)
 ElementFound kind reference index free heap (Err verdict) = (go : ℕ → ℕ → Step) → element kind reference index free heap go ≡ ends verdict
+
+-- the end of a read, and of a print
+abbrev pub Received : Kind → ℤ → ℕ → Registers → List ℤ → Registers → List ℤ → Type 0
+Received kind word next r p r′ p′ = (d h c : List ℤ) → state r′ d h c p′ ≡ at (pos next) (pushed (kept kind word) (state r d h c p))
+
+abbrev pub Dropped : ℕ → Registers → Registers → Type 0
+Dropped next r r′ = (d h c p : List ℤ) → state r′ d h c p ≡ printedFrom next (state r d h c p)

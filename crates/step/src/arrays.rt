@@ -27,7 +27,13 @@ fn array_words(kind: Kind, n: usize) -> usize
 }
 
 // new_array performs the making of an array.
-pub(crate) fn new_array(r: &mut Registers, heap: &mut [i32], operand: &mut [i32], kind: Kind, next: i32) -> Result<Effect, Verdict>
+pub(crate) fn new_array(
+    r: &mut Registers,
+    heap: &mut [i32],
+    operand: &mut [i32],
+    kind: Kind,
+    next: u16,
+) -> Result<Effect, Verdict>
     requires height { ⌜ now r .height ≤ length (now operand) ⌝ }
     requires free { ⌜ now r .free ≤ length (now heap) ⌝ }
     requires short { ⌜ length (now heap) ≤ 1048576 ⌝ }
@@ -47,7 +53,7 @@ pub(crate) fn new_array(r: &mut Registers, heap: &mut [i32], operand: &mut [i32]
     write_block(heap, r.free, elements, &[], words - 1);
     operand[r.height - 1] = r.free as i32;
     r.free += words;
-    r.pc = next;
+    r.pc = next as i32;
     Ok(Effect::Moved)
 }
 
@@ -74,7 +80,13 @@ fn element_word(kind: Kind, index: usize) -> usize
 }
 
 // element finds the heap word of an array's element.
-fn element(free: usize, heap: &[i32], kind: Kind, reference: i32, index: i32) -> Result<Element, Verdict>
+fn element(
+    free: usize,
+    heap: &[i32],
+    kind: Kind,
+    reference: i32,
+    index: i32,
+) -> Result<Element, Verdict>
     requires free { ⌜ free ≤ length (now heap) ⌝ }
     requires short { ⌜ length (now heap) ≤ 1048576 ⌝ }
     ensures found { λ o. ⌜ ElementFound kind reference index free (now (heap .entry)) o ⌝ }
@@ -101,7 +113,13 @@ fn element(free: usize, heap: &[i32], kind: Kind, reference: i32, index: i32) ->
 }
 
 // array_load performs a load of an element.
-pub(crate) fn array_load(r: &mut Registers, heap: &[i32], operand: &mut [i32], kind: Kind, next: i32) -> Result<Effect, Verdict>
+pub(crate) fn array_load(
+    r: &mut Registers,
+    heap: &[i32],
+    operand: &mut [i32],
+    kind: Kind,
+    next: u16,
+) -> Result<Effect, Verdict>
     requires height { ⌜ now r .height ≤ length (now operand) ⌝ }
     requires free { ⌜ now r .free ≤ length (now heap) ⌝ }
     requires short { ⌜ length (now heap) ≤ 1048576 ⌝ }
@@ -110,10 +128,16 @@ pub(crate) fn array_load(r: &mut Registers, heap: &[i32], operand: &mut [i32], k
     if r.height < 2 {
         return Err(Verdict::IllegalStep);
     }
-    let at = element(r.free, heap, kind, operand[r.height - 2], operand[r.height - 1])?;
+    let at = element(
+        r.free,
+        heap,
+        kind,
+        operand[r.height - 2],
+        operand[r.height - 1],
+    )?;
     operand[r.height - 2] = element_in(kind, at.index, heap[at.word]);
     r.height -= 1;
-    r.pc = next;
+    r.pc = next as i32;
     Ok(Effect::Moved)
 }
 
@@ -138,7 +162,13 @@ fn with_element(kind: Kind, index: usize, value: i32, word: i32) -> i32
 }
 
 // array_store performs a store to an element.
-pub(crate) fn array_store(r: &mut Registers, heap: &mut [i32], operand: &[i32], kind: Kind, next: i32) -> Result<Effect, Verdict>
+pub(crate) fn array_store(
+    r: &mut Registers,
+    heap: &mut [i32],
+    operand: &[i32],
+    kind: Kind,
+    next: u16,
+) -> Result<Effect, Verdict>
     requires height { ⌜ now r .height ≤ length (now operand) ⌝ }
     requires free { ⌜ now r .free ≤ length (now heap) ⌝ }
     requires short { ⌜ length (now heap) ≤ 1048576 ⌝ }
@@ -147,15 +177,26 @@ pub(crate) fn array_store(r: &mut Registers, heap: &mut [i32], operand: &[i32], 
     if r.height < 3 {
         return Err(Verdict::IllegalStep);
     }
-    let at = element(r.free, heap, kind, operand[r.height - 3], operand[r.height - 2])?;
+    let at = element(
+        r.free,
+        heap,
+        kind,
+        operand[r.height - 3],
+        operand[r.height - 2],
+    )?;
     heap[at.word] = with_element(kind, at.index, operand[r.height - 1], heap[at.word]);
     r.height -= 3;
-    r.pc = next;
+    r.pc = next as i32;
     Ok(Effect::Moved)
 }
 
 // array_length performs a load of an array's length.
-pub(crate) fn array_length(r: &mut Registers, heap: &[i32], operand: &mut [i32], next: i32) -> Result<Effect, Verdict>
+pub(crate) fn array_length(
+    r: &mut Registers,
+    heap: &[i32],
+    operand: &mut [i32],
+    next: u16,
+) -> Result<Effect, Verdict>
     requires height { ⌜ now r .height ≤ length (now operand) ⌝ }
     requires free { ⌜ now r .free ≤ length (now heap) ⌝ }
     ensures { λ o. ⌜ OnHeap Instruction.ArrayLength next o (now (r .entry)) (now (heap .entry)) (now (operand .entry)) (now (r .exit)) (now (heap .entry)) (now (operand .exit)) ⌝ }
@@ -171,6 +212,6 @@ pub(crate) fn array_length(r: &mut Registers, heap: &[i32], operand: &mut [i32],
         return Err(Verdict::IllegalStep);
     };
     operand[r.height - 1] = heap[at];
-    r.pc = next;
+    r.pc = next as i32;
     Ok(Effect::Moved)
 }

@@ -8,7 +8,12 @@ ghost use Rattle.step.specs.Promises.{InCode, OnCall, OnCallAlone};
 ghost use lib.ListN.{length};
 
 // call_method performs a call: the return address is next.
-pub(crate) fn call_method(r: &mut Registers, call: &mut [i32], by: i16, next: i32) -> Result<Effect, Verdict>
+pub(crate) fn call_method(
+    r: &mut Registers,
+    call: &mut [i32],
+    by: i16,
+    next: u16,
+) -> Result<Effect, Verdict>
     requires top { ⌜ now r .top ≤ length (now call) ⌝ }
     requires inside { ⌜ InCode (now r .pc) ⌝ }
     ensures { λ o. ⌜ OnCallAlone (Instruction.Call by) next o (now (r .entry)) (now (call .entry)) (now (r .exit)) (now (call .exit)) ⌝ }
@@ -16,14 +21,18 @@ pub(crate) fn call_method(r: &mut Registers, call: &mut [i32], by: i16, next: i3
     if r.top >= call.len() {
         return Err(Verdict::CallStackExhausted);
     }
-    call[r.top] = next;
+    call[r.top] = next as i32;
     r.top += 1;
     r.pc += by as i32;
     Ok(Effect::Moved)
 }
 
 // return_to_caller performs a return.
-pub(crate) fn return_to_caller(r: &mut Registers, call: &[i32], next: i32) -> Result<Effect, Verdict>
+pub(crate) fn return_to_caller(
+    r: &mut Registers,
+    call: &[i32],
+    next: u16,
+) -> Result<Effect, Verdict>
     requires { ⌜ now r .top ≤ length (now call) ⌝ }
     ensures { λ o. ⌜ OnCallAlone Instruction.Return next o (now (r .entry)) (now (call .entry)) (now (r .exit)) (now (call .entry)) ⌝ }
 {
@@ -40,7 +49,14 @@ pub(crate) fn return_to_caller(r: &mut Registers, call: &[i32], next: i32) -> Re
 }
 
 // enter performs the entry of a method: a frame is made, and the arguments are taken.
-pub(crate) fn enter(r: &mut Registers, call: &mut [i32], operand: &[i32], parameters: u8, locals: u8, next: i32) -> Result<Effect, Verdict>
+pub(crate) fn enter(
+    r: &mut Registers,
+    call: &mut [i32],
+    operand: &[i32],
+    parameters: u8,
+    locals: u8,
+    next: u16,
+) -> Result<Effect, Verdict>
     requires height { ⌜ now r .height ≤ length (now operand) ⌝ }
     requires top { ⌜ now r .top ≤ length (now call) ⌝ }
     requires short { ⌜ length (now call) ≤ 1048576 ⌝ }
@@ -62,16 +78,22 @@ pub(crate) fn enter(r: &mut Registers, call: &mut [i32], operand: &[i32], parame
     if operand.len() - left < 32 {
         return Err(Verdict::OperandStackExhausted);
     }
-    write_block(call, r.top, r.frame, &operand[left..r.height], locals as usize - count);
+    write_block(
+        call,
+        r.top,
+        r.frame,
+        &operand[left..r.height],
+        locals as usize - count,
+    );
     r.frame = first as i32;
     r.top = top;
     r.height = left;
-    r.pc = next;
+    r.pc = next as i32;
     Ok(Effect::Moved)
 }
 
 // exit performs an exit: the caller's frame comes back.
-pub(crate) fn exit(r: &mut Registers, call: &[i32], next: i32) -> Result<Effect, Verdict>
+pub(crate) fn exit(r: &mut Registers, call: &[i32], next: u16) -> Result<Effect, Verdict>
     ensures { λ o. ⌜ OnCallAlone Instruction.Exit next o (now (r .entry)) (now (call .entry)) (now (r .exit)) (now (call .entry)) ⌝ }
 {
     if r.frame < 1 || r.frame as usize > call.len() {
@@ -79,6 +101,6 @@ pub(crate) fn exit(r: &mut Registers, call: &[i32], next: i32) -> Result<Effect,
     }
     r.top = r.frame as usize - 1;
     r.frame = call[r.top];
-    r.pc = next;
+    r.pc = next as i32;
     Ok(Effect::Moved)
 }

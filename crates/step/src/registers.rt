@@ -20,10 +20,18 @@ pub struct Registers {
 pub enum Effect {
     // The step is made.
     Moved,
-    // The step is a read of that kind: it wants a word, and nothing has changed yet.
-    Takes(Kind),
+    // The step is a read: it wants a word, and nothing has changed yet.
+    Takes {
+        kind: Kind,
+        next: u16,
+    },
     // The step is a print of a value at a width: nothing has changed yet.
-    Writes(Kind, i32, i32),
+    Writes {
+        kind: Kind,
+        value: i32,
+        width: i32,
+        next: u16,
+    },
 }
 
 // Element is the heap word of an array's element, and the element's index.

@@ -24,8 +24,8 @@ returns-then-holds c d h k =
     let g : SFits w32 (getD p (r .height - 1) (pos 0)) = search needs in
     let e : true ≡ holds (c .args .relation) (getD p (r .height - 2) (pos 0)) (getD p (r .height - 1) (pos 0)) = simp toZ-ofZ at (c .if-holds .ensures tt) in
     let t : r .pc +ℤ c .args .by ≡ toZ w32 (ofZ w32 (toZ w32 (ofZ w32 (r .pc)) +ℤ toZ w32 (ofZ w32 (toZ w16 (ofZ w16 (c .args .by)))))) = omega (arith, ints) in
-    pops-two s (λ b a u. goTo (cond (holds (c .args .relation) a b) (r .pc +ℤ c .args .by) (c .args .next)) u) (omega arith) ∙
-    ap (λ (b : Bool). goTo (cond b (r .pc +ℤ c .args .by) (c .args .next)) (withOperand (r .height - 2) p s)) (sym e) ∙
+    pops-two s (λ b a u. goTo (cond (holds (c .args .relation) a b) (r .pc +ℤ c .args .by) (pos (c .args .next))) u) (omega arith) ∙
+    ap (λ (b : Bool). goTo (cond b (r .pc +ℤ c .args .by) (pos (c .args .next))) (withOperand (r .height - 2) p s)) (sym e) ∙
     ap (λ (z : ℤ). goTo z (withOperand (r .height - 2) p s)) t
 
 pub returns : need.returns
