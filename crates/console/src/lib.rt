@@ -2,7 +2,7 @@
 // Promises what each call of a console takes, writes, refuses and leaves untouched.
 // Does not say what the words and bytes mean, and allocates nothing.
 //
-// src/slice_console.rt: a console over lent memory; src/slice_console/calls.rt has its calls.
+// src/slice_console.rt: a console over lent memory; src/slice_console/host.rt: what its host calls; src/slice_console/calls.rt: what a program calls.
 // src/ring.rt: items in the order in which they came; src/ring/calls.rt has the calls of a ring.
 // src/ring_console.rt: a console that owns two rings, which the host feeds and drains.
 // src/tests.rt: a worked example of each.

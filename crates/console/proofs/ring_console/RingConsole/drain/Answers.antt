@@ -2,10 +2,8 @@ use mathlib.Core.Path.{_≡_, ap, sym, _∙_}
 use native.Mathlib.Omega.{arith}
 use lib.ListN.{length, length-drop}
 use Rattle.std.proofs.shelf.Lists.{set-getD}
-use Rattle.console.specs.Rings.{written}
-use Rattle.console.specs.Rounds.{held}
+use Rattle.console.specs.Rings.{held, written}
 use Rattle.console.proofs.Moved.{more-left, moved-more, none-left, rest-is, still-none}
-use Rattle.console.proofs.Rounds.{held-within}
 use Rattle.console.proofs.ring_console.RingConsole.drain.Needs as need
 
 pub loop-i-again : need.loop-i-again
@@ -31,7 +29,6 @@ returns-in-None c =
     let none = c .in-None .ensures tt in
     let all = none-left old left i (c .loop-i .inv .2) (none .0) in
     let same = still-none old left after i (c .loop-i .inv .2) (none .0) (none .1) in
-    let within = held-within (c .args .self .now .output) in
     let l = simp length-drop at (ap length same) in
     record {
       count = omega arith;
@@ -46,7 +43,6 @@ returns c =
     let i = c .loop-i .i in
     let s = c .args .self .now in
     let all : length (c .loop-i .out) ≡ i = omega arith in
-    let within = held-within (s .output) in
     let l = simp length-drop at (ap length (c .loop-i .inv .2)) in
     record {
       count = omega arith;
