@@ -1,4 +1,5 @@
-pub mod calls;
+pub mod ends;
+pub mod size;
 
 ghost use Prim.Native.Nat.{_<_, _≤_};
 ghost use lib.ListN.{length};

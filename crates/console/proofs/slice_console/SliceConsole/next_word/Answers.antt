@@ -1,10 +1,9 @@
 use borrow.Author.Needs.{needs}
-use mathlib.Core.Path.{_≡_, _∙_, ap, sym}
+use mathlib.Core.Path.{_∙_, ap, sym}
 use mathlib.Core.List.{_∷_}
 use native.Mathlib.Omega.{arith}
-use Prim.Native.Nat.{_+_}
 use lib.IntN.{pos}
-use lib.ListN.{drop, getD, length-drop}
+use lib.ListN.{getD, length-drop}
 use mir.Syntax.{w32}
 use mir.Val.{SFits}
 use Rattle.std.proofs.shelf.Lists.{drop-all, drop-more}

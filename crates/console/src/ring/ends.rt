@@ -1,32 +1,12 @@
 use super::Ring;
 ghost use Prim.Native.Nat.{_+_, _<_, _≤_};
-ghost use mathlib.Core.List.{[], _∷_, _++_};
 ghost use lib.ListN.{length};
+ghost use mathlib.Core.List.{[], _++_, _∷_};
 ghost use mathlib.Core.Path.{_≡_};
 ghost use Rattle.console.specs.Rings.{HeldNext, Pops, held};
 ghost use Rattle.console.specs.Rounds.{wrapped};
 
 impl<T: Copy, const N: usize> Ring<T, N> {
-    // new makes an empty ring; the filler stands where no item is.
-    pub fn new(filler: T) -> Ring<T, N>
-        requires { ⌜ 0 < N ⌝ }
-        ensures { λ r. ⌜ held r ≡ [] ⌝ }
-    {
-        Ring {
-            items: [filler; N],
-            first: 0,
-            count: 0,
-        }
-    }
-
-    // len is the number of items.
-    pub fn len(&self) -> usize
-        ensures count { λ r. ⌜ r ≡ length (held (now (self .entry))) ⌝ }
-        ensures within { λ r. ⌜ r ≤ N ⌝ }
-    {
-        self.count
-    }
-
     // push adds an item behind the others.
     pub fn push(&mut self, item: T)
         requires { ⌜ length (held (now self)) < N ⌝ }
