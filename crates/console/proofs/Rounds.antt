@@ -8,16 +8,15 @@ use lib.Seq.{take-set-le, take-set-lt, take-append-le}
 use Rattle.std.proofs.shelf.Lists.{take-more-set, take-more, drop-more, drop-all, take-all, drop-set-add, drop-set-lt, set-append-left, set-append-right}
 use Rattle.std.proofs.shelf.Tests.{cond-both, ltb-true, ltb-false}
 use lib.Dec.{ltb}
-use Rattle.console.specs.Rounds.{held, round, wrapped}
-use Rattle.console.specs.declared.ring.Ring.{Ring}
+use Rattle.console.specs.Rounds.{along, round, wrapped}
 
 -- reading round from any place finds as many items as there are places
 pub length-round : {A : Type 0} (f : ℕ) (xs : List A) → f ≤ length xs → length (round f xs) ≡ length xs
 length-round f xs h = simp (length-append, length-take, length-drop) (omega arith)
 
--- a ring with n items holds n
-pub length-held : {A : Type 0} (f n : ℕ) (xs : List A) → f ≤ length xs → n ≤ length xs → length (take n (round f xs)) ≡ n
-length-held f n xs h g = let e = length-round f xs h in simp length-take (omega arith)
+-- the first n of them are n
+pub length-along : {A : Type 0} (f n : ℕ) (xs : List A) → f ≤ length xs → n ≤ length xs → length (along f n xs) ≡ n
+length-along f n xs h g = let e = length-round f xs h in simp length-take (omega arith)
 
 -- the same, where that place lies before the end, and where it lies past it
 set-below : {A : Type 0} (f n : ℕ) (xs : List A) (v : A) → f + n < length xs → round f (set xs (f + n) v) ≡ set (round f xs) n v
@@ -44,8 +43,8 @@ round-set f n xs v h g =
     (λ e. let past = ltb-false _ _ e in set-past f n (f + n - length xs) xs v (omega arith) (omega arith) (omega arith))
 
 -- one item more
-pub round-push : {A : Type 0} (f n : ℕ) (xs : List A) (v : A) → f < length xs → n < length xs → take (n + 1) (round f (set xs (wrapped (length xs) (f + n)) v)) ≡ take n (round f xs) ++ v ∷ []
-round-push f n xs v h g =
+pub along-push : {A : Type 0} (f n : ℕ) (xs : List A) (v : A) → f < length xs → n < length xs → along f (n + 1) (set xs (wrapped (length xs) (f + n)) v) ≡ along f n xs ++ v ∷ []
+along-push f n xs v h g =
     let l = length-round f xs (omega arith) in
     ap (take (n + 1)) (round-set f n xs v h g) ∙ take-more-set (round f xs) n v (omega arith)
 
@@ -68,8 +67,8 @@ take-first zero x xs h = absurd (omega arith)
 take-first (suc n) x xs h = let e : n ≡ suc n - 1 = omega arith in ap (λ k. x ∷ take k xs) e
 
 -- one item less
-pub round-pop : {A : Type 0} (f n : ℕ) (xs : List A) (d : A) → f < length xs → 0 < n → n ≤ length xs → take n (round f xs) ≡ getD xs f d ∷ take (n - 1) (round (wrapped (length xs) (f + 1)) xs)
-round-pop f n xs d h p g =
+pub along-pop : {A : Type 0} (f n : ℕ) (xs : List A) (d : A) → f < length xs → 0 < n → n ≤ length xs → along f n xs ≡ getD xs f d ∷ along (wrapped (length xs) (f + 1)) (n - 1) xs
+along-pop f n xs d h p g =
     let x = getD xs f d in
     let rest = drop (f + 1) xs ++ take f xs in
     let fits : n - 1 ≤ length rest = simp (length-append, length-take, length-drop) (omega arith) in
@@ -77,9 +76,3 @@ round-pop f n xs d h p g =
     ∙ take-first n x rest p
     ∙ ap (λ l. x ∷ l) (sym (take-append-le (n - 1) rest (x ∷ []) fits))
     ∙ ap (λ l. x ∷ take (n - 1) l) (append-assoc (drop (f + 1) xs) (take f xs) (x ∷ []) ∙ sym (round-next f xs d h))
-
--- a ring holds no more than it has places for
-pub held-within : {A : Type 0} {n : ℕ} (ring : Ring A n) → length (held ring) ≤ n
-held-within ring =
-    let e = length-held (ring .first) (ring .count) (ring .items) (omega arith) (omega arith) in
-    omega arith

@@ -2,14 +2,18 @@
 // Promises what each call of a console takes, writes, refuses and leaves untouched.
 // Does not say what the words and bytes mean, and allocates nothing.
 //
-// src/slice_console.rt: a console over lent memory; src/slice_console/calls.rt has its calls.
-// src/ring.rt: items in the order in which they came; src/ring/calls.rt has the calls of a ring.
-// src/ring_console.rt: a console that owns two rings, which the host feeds and drains.
+// src/slice_console.rt: a console over lent memory.
+// src/slice_console/host.rt: what its host calls.
+// src/slice_console/calls.rt: what a program calls.
+// src/ring.rt: a ring, which holds items in the order in which they came.
+// src/ring/size.rt: an empty ring, and how many items one holds.
+// src/ring/ends.rt: push behind the last item, pop the first.
+// src/ring_console.rt: a console that owns two rings, which its host feeds and drains.
 // src/tests.rt: a worked example of each.
 // specs/Calls.antt: what take and put do, on any console.
 // specs/Slices.antt: what a console over lent memory holds.
-// specs/Rounds.antt: what a ring holds.
-// specs/Rings.antt: what a console over two rings holds, and what feed does.
+// specs/Rounds.antt: the places of a ring, read round.
+// specs/Rings.antt: what a ring and a console over two rings hold, and what feed does.
 // proofs/: the laws of a ring, and of loops that append or move items.
 mod ring;
 mod ring_console;

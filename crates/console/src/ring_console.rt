@@ -37,7 +37,7 @@ impl RingConsole {
         ensures written { λ _. ⌜ written (now (self .exit)) ≡ written (now (self .entry)) ⌝ }
         ensures room { λ _. ⌜ room (now (self .exit)) ≡ room (now (self .entry)) ⌝ }
     {
-        if self.input.len() == WORDS {
+        if self.words_waiting() == WORDS {
             return Err(Refusal::InputFull);
         }
         self.input.push(word);

@@ -1,8 +1,10 @@
 pub mod calls;
+pub mod host;
 
 ghost use denote.Ref.{now};
-ghost use Prim.Native.Nat.{_≤_};
-ghost use lib.ListN.{length};
+ghost use Prim.Native.Nat.{_+_, _≤_};
+ghost use lib.ListN.{drop, length};
+ghost use mathlib.Core.Path.{_≡_};
 
 // SliceConsole takes its words from a lent list and writes into a lent buffer.
 #[derive(Drop)]
@@ -11,6 +13,6 @@ pub struct SliceConsole<'w, 'b> {
     taken: usize,
     buffer: &'b mut [u8],
     filled: usize,
-    ghost taken_within: { taken ≤ length (now words) },
+    ghost taken_counted: { taken + length (drop taken (now words)) ≡ length (now words) },
     ghost filled_within: { filled ≤ length (now buffer) },
 }

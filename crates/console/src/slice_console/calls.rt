@@ -1,42 +1,20 @@
 use super::SliceConsole;
 use crate::Console;
 use outcomes::Refusal;
-ghost use Prim.Native.Nat.{_+_};
-ghost use lib.ListN.{length};
-ghost use mathlib.Core.List.{[]};
 ghost use mathlib.Core.Path.{_≡_};
 ghost use Rattle.console.specs.Calls.{Fits, Puts, Takes};
-ghost use Rattle.console.specs.Slices.{LeavesLent, lentBytes, lentWords, room, waiting, written};
+ghost use Rattle.console.specs.Slices.{LeavesLent, Next, room, waiting, written};
 
-impl<'w, 'b> SliceConsole<'w, 'b> {
-    // new makes a console where all of the words wait and nothing is written.
-    pub fn new(words: &'w [i32], buffer: &'b mut [u8]) -> SliceConsole<'w, 'b>
-        ensures waiting { λ r. ⌜ waiting r ≡ now (words .entry) ⌝ }
-        ensures written { λ r. ⌜ written r ≡ [] ⌝ }
-        ensures room { λ r. ⌜ room r ≡ length (now (buffer .entry)) ⌝ }
-        ensures words { λ r. ⌜ lentWords r ≡ now (words .entry) ⌝ }
-        ensures bytes { λ r. ⌜ lentBytes r ≡ now (buffer .entry) ⌝ }
+impl SliceConsole<'_, '_> {
+    // next_word is the first word that waits.
+    fn next_word(&self) -> Option<i32>
+        ensures { λ r. ⌜ Next r (now (self .entry)) ⌝ }
     {
-        SliceConsole {
-            words,
-            taken: 0,
-            buffer,
-            filled: 0,
+        if self.taken < self.words.len() {
+            Some(self.words[self.taken])
+        } else {
+            None
         }
-    }
-
-    // taken is how many words of the lent list were taken.
-    pub fn taken(&self) -> usize
-        ensures { λ r. ⌜ r + length (waiting (now (self .entry))) ≡ length (lentWords (now (self .entry))) ⌝ }
-    {
-        self.taken
-    }
-
-    // written_bytes is the bytes that were put, the first of the lent buffer.
-    pub fn written_bytes(&self) -> &[u8]
-        ensures { λ r. ⌜ now r ≡ written (now (self .entry)) ⌝ }
-    {
-        &self.buffer[0..self.filled]
     }
 }
 
@@ -61,10 +39,9 @@ pub impl Console for SliceConsole<'_, '_> as ConsoleOfSlices {
         ensures room { λ _. ⌜ room (now (self .exit)) ≡ room (now (self .entry)) ⌝ }
         ensures lent { λ _. ⌜ LeavesLent (now (self .entry)) (now (self .exit)) ⌝ }
     {
-        if self.taken == self.words.len() {
+        let Some(word) = self.next_word() else {
             return Err(Refusal::NoWordWaiting);
-        }
-        let word = self.words[self.taken];
+        };
         self.taken += 1;
         Ok(word)
     }

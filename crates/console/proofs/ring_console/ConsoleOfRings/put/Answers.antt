@@ -5,7 +5,6 @@ use lib.ListN.{length, length-append}
 use mathlib.Core.List.{_++_}
 use Rattle.console.specs.Rings.{written}
 use Rattle.console.proofs.Appended.{appended-more, appended-all, length-appended}
-use Rattle.console.proofs.Rounds.{held-within}
 use Rattle.console.proofs.ring_console.ConsoleOfRings.put.Needs as need
 
 pub push-requires : need.push-requires
@@ -25,6 +24,5 @@ returns c =
     let t = c .loop-byte .self in
     let xs = c .args .bytes .now in
     let e : written t ≡ written s ++ xs = appended-all _ (written t) xs (c .loop-byte .byte-index) (c .loop-byte-test .left) (c .loop-byte .inv .1) in
-    let h = held-within (s .output) in
     let l = simp length-append at (ap length e) in
     record { puts = e; room = omega arith; waiting = c .loop-byte .inv .0 }

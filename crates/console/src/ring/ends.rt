@@ -1,38 +1,18 @@
 use super::Ring;
 ghost use Prim.Native.Nat.{_+_, _<_, _≤_};
-ghost use mathlib.Core.List.{[], _∷_, _++_};
 ghost use lib.ListN.{length};
+ghost use mathlib.Core.List.{[], _++_, _∷_};
 ghost use mathlib.Core.Path.{_≡_};
-ghost use Rattle.console.specs.Rounds.{Pops, held, wrapped};
+ghost use Rattle.console.specs.Rings.{HeldNext, Pops, held};
+ghost use Rattle.console.specs.Rounds.{wrapped};
 
 impl<T: Copy, const N: usize> Ring<T, N> {
-    // new makes an empty ring; the filler stands where no item is.
-    pub fn new(filler: T) -> Ring<T, N>
-        requires { ⌜ 0 < N ⌝ }
-        ensures { λ r. ⌜ held r ≡ [] ⌝ }
-    {
-        Ring {
-            items: [filler; N],
-            first: 0,
-            count: 0,
-        }
-    }
-
-    // len is the number of items.
-    pub fn len(&self) -> usize
-        ensures count { λ r. ⌜ r ≡ length (held (now (self .entry))) ⌝ }
-        ensures within { λ r. ⌜ r ≤ N ⌝ }
-    {
-        self.count
-    }
-
     // push adds an item behind the others.
     pub fn push(&mut self, item: T)
         requires { ⌜ length (held (now self)) < N ⌝ }
         ensures { λ _. ⌜ held (now (self .exit)) ≡ held (now (self .entry)) ++ item ∷ [] ⌝ }
     {
-        let at = self.place(self.count);
-        self.items[at] = item;
+        self.write_behind(item);
         self.count += 1;
     }
 
@@ -49,10 +29,20 @@ impl<T: Copy, const N: usize> Ring<T, N> {
         Some(item)
     }
 
+    // write_behind puts an item into the place behind the last one; it does not count it.
+    fn write_behind(&mut self, item: T)
+        requires { ⌜ length (held (now self)) < N ⌝ }
+        ensures { λ _. ⌜ HeldNext item (now (self .entry)) (now (self .exit)) ⌝ }
+    {
+        let at = self.place(self.count);
+        self.items[at] = item;
+    }
+
     // place is where the item stands that comes `steps` behind the oldest one.
     fn place(&self, steps: usize) -> usize
         requires { ⌜ steps ≤ N ⌝ }
-        ensures { λ r. ⌜ r ≡ wrapped N (now (self .entry) .first + steps) ⌝ }
+        ensures at { λ r. ⌜ r ≡ wrapped N (now (self .entry) .first + steps) ⌝ }
+        ensures within { λ r. ⌜ r < N ⌝ }
     {
         let to_end = N - self.first;
         if steps < to_end {
