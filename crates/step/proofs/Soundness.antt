@@ -13,13 +13,16 @@ use Rattle.std.specs.declared.option.Option.the-variants.{Some, None}
 use Rattle.std.proofs.shelf.Tests.{ltb-true, leb-true}
 use Rattle.words.specs.declared.printing.Kind.{Kind}
 use Rattle.words.specs.declared.printing.Kind.the-variants.{Int, Char}
-use Rattle.words.specs.Arithmetic.{compute}
+use Rattle.outcomes.specs.declared.Verdict.the-variants.{MissingReturn}
+use Rattle.words.specs.Arithmetic.{wrap, compute, negation, holds}
+use Rattle.words.specs.Bytes.{kept}
+use Rattle.words.specs.Printing.{printedAs}
 use Rattle.instructions.specs.declared.Decoded.{Decoded}
 use Rattle.instructions.specs.declared.Instruction.{Instruction}
 use Rattle.instructions.specs.declared.Instruction.the-variants.{Load, Store, GetStatic, PutStatic, Const, Binary, Negate, Increment, NewArray, ArrayLoad, ArrayStore, ArrayLength, Pop, Dup, Dup2, Jump, JumpIf, Call, Return, Enter, Exit, Read, Print, Trap}
 use Rattle.step.specs.State.{State, state, Step, moves, takes, writes, ends, at, withOperand, withHeap, withCall, withData}
 use Rattle.step.specs.Stacks.{illegal, wordAt, goTo, pushed, push, pop, inside, local}
-use Rattle.step.specs.Arrays.{over, arrayWords, used, lengthWord, notNull, notNegative, below, element, newArray}
+use Rattle.step.specs.Arrays.{over, arrayWords, used, lengthWord, notNull, notNegative, below, element, elementIn, withElement, newArray}
 use Rattle.step.specs.Calls.{call, returnTo, return, frameWords, entered, enter, exit}
 use Rattle.step.specs.Perform.{result, perform, fetched, performed, step}
 use Rattle.step.specs.Sound.{Sound}
@@ -62,9 +65,15 @@ push-keeps w s go k f = if-keeps (ltb (s .registers .height) (length (s .operand
 pop-keeps : (s : State) (go : ℤ → State → Step) → Sound s → ((w : ℤ) (t : State) → Sound t → Keeps (go w t)) → Keeps (pop s go)
 pop-keeps s go k f = if-keeps (ltb 0 (s .registers .height)) _ _ (λ e. f _ (withOperand (s .registers .height - 1) (s .operand) s) (pop-sound (s .registers .height - 1) s k (omega arith))) tt
 
+pops-two-keep : (s : State) (go : ℤ → ℤ → State → Step) → Sound s → ((b a : ℤ) (u : State) → Sound u → Keeps (go b a u)) → Keeps (pop s λ b t. pop t λ a u. go b a u)
+pops-two-keep s go k f = pop-keeps s (λ b t. pop t λ a u. go b a u) k λ b t m. pop-keeps t (go b) m (f b)
+
 inside-keeps : (z : ℤ) (size : ℕ) (go : ℕ → Step) → ((i : ℕ) → i < size → Keeps (go i)) → Keeps (inside z size go)
 inside-keeps (pos i) size go f = if-keeps (ltb i size) _ _ (λ e. f i (ltb-true i size e)) tt
 inside-keeps (negsuc i) size go f = tt
+
+local-keeps : (n : ℕ) (s : State) (go : ℕ → Step) → ((i : ℕ) → i < length (s .call) → Keeps (go i)) → Keeps (local n s go)
+local-keeps n s go f = inside-keeps (s .registers .frame +ℤ pos n) (length (s .call)) go f
 
 result-keeps : (o : Option ℤ) (go : ℤ → Step) → ((w : ℤ) → Keeps (go w)) → Keeps (result o go)
 result-keeps None go f = tt
@@ -132,31 +141,53 @@ enter-keeps parameters locals next s k =
     tt
 
 perform-keeps : (i : Instruction) (next : ℤ) (s : State) → Sound s → Keeps (perform i next s)
-perform-keeps (Load n) next s k = inside-keeps _ _ _ λ i lt. push-keeps _ s _ k λ t. elsewhere next t
-perform-keeps (Store n) next s k = inside-keeps _ _ _ λ i lt. pop-keeps s _ k λ w t m. elsewhere next _ (call-sound _ _ _ t m (length-set (t .call) i w) (m .top))
-perform-keeps (GetStatic n) next s k = inside-keeps _ _ _ λ i lt. push-keeps _ s _ k λ t. elsewhere next t
-perform-keeps (PutStatic n) next s k = inside-keeps _ _ _ λ i lt. pop-keeps s _ k λ w t m. elsewhere next _ (data-sound _ t m)
-perform-keeps (Const w) next s k = push-keeps w s _ k λ t. elsewhere next t
-perform-keeps (Binary o) next s k = pop-keeps s _ k λ b t m. pop-keeps t _ m λ a u n. result-keeps (compute o a b) _ λ w. push-keeps w u _ n λ x. elsewhere next x
-perform-keeps Negate next s k = pop-keeps s _ k λ a t m. push-keeps _ t _ m λ x. elsewhere next x
-perform-keeps (Increment n by) next s k = inside-keeps _ _ _ λ i lt. elsewhere next _ (call-sound _ _ _ s k (length-set (s .call) i _) (k .top))
-perform-keeps (NewArray kind) next s k = pop-keeps s _ k λ n t m. array-keeps kind n t _ m λ w u o. push-keeps w u _ o λ x. elsewhere next x
-perform-keeps (ArrayLoad kind) next s k = pop-keeps s _ k λ i t m. pop-keeps t _ m λ a u n. element-keeps kind a i _ _ _ λ w j. push-keeps _ u _ n λ x. elsewhere next x
+perform-keeps (Load n) next s k =
+    local-keeps n s (λ i. push (wordAt (s .call) i) s (goTo next)) λ i lt. push-keeps (wordAt (s .call) i) s (goTo next) k (elsewhere next)
+perform-keeps (Store n) next s k =
+    let go : ℕ → ℤ → State → Step = λ i w t. goTo next (withCall (t .registers .frame) (t .registers .top) (set (t .call) i w) t) in
+    local-keeps n s (λ i. pop s (go i)) λ i lt. pop-keeps s (go i) k λ w t m. elsewhere next _ (call-sound _ _ _ t m (length-set (t .call) i w) (m .top))
+perform-keeps (GetStatic n) next s k =
+    inside-keeps (pos n) (length (s .datas)) (λ i. push (wordAt (s .datas) i) s (goTo next)) λ i lt. push-keeps (wordAt (s .datas) i) s (goTo next) k (elsewhere next)
+perform-keeps (PutStatic n) next s k =
+    let go : ℕ → ℤ → State → Step = λ i w t. goTo next (withData (set (t .datas) i w) t) in
+    inside-keeps (pos n) (length (s .datas)) (λ i. pop s (go i)) λ i lt. pop-keeps s (go i) k λ w t m. elsewhere next _ (data-sound _ t m)
+perform-keeps (Const w) next s k = push-keeps w s (goTo next) k (elsewhere next)
+perform-keeps (Binary o) next s k =
+    pops-two-keep s (λ b a u. result (compute o a b) λ w. push w u (goTo next)) k λ b a u m. result-keeps (compute o a b) (λ w. push w u (goTo next)) λ w. push-keeps w u (goTo next) m (elsewhere next)
+perform-keeps Negate next s k = pop-keeps s (λ a t. push (negation a) t (goTo next)) k λ a t m. push-keeps (negation a) t (goTo next) m (elsewhere next)
+perform-keeps (Increment n by) next s k =
+    local-keeps n s (λ i. goTo next (withCall (s .registers .frame) (s .registers .top) (set (s .call) i (wrap (wordAt (s .call) i +ℤ by))) s))
+    λ i lt. elsewhere next _ (call-sound _ _ _ s k (length-set (s .call) i _) (k .top))
+perform-keeps (NewArray kind) next s k =
+    let go : ℤ → State → Step = λ w u. push w u (goTo next) in
+    pop-keeps s (λ n t. newArray kind n t go) k λ n t m. array-keeps kind n t go m λ w u o. push-keeps w u (goTo next) o (elsewhere next)
+perform-keeps (ArrayLoad kind) next s k =
+    let go : State → ℕ → ℕ → Step = λ u w j. push (elementIn kind j (wordAt (u .heap) w)) u (goTo next) in
+    pops-two-keep s (λ i a u. element kind a i (u .registers .free) (u .heap) (go u)) k λ i a u m. element-keeps kind a i _ _ (go u) λ w j. push-keeps (elementIn kind j (wordAt (u .heap) w)) u (goTo next) m (elsewhere next)
 perform-keeps (ArrayStore kind) next s k =
-    pop-keeps s _ k λ v t m. pop-keeps t _ m λ i u n. pop-keeps u _ n λ a x o. element-keeps kind a i _ _ _ λ w j. elsewhere next _ (heap-sound _ _ x o (length-set (x .heap) w _) (o .free))
-perform-keeps ArrayLength next s k = pop-keeps s _ k λ a t m. null-keeps a _ (length-keeps a _ _ λ r. push-keeps _ t _ m λ x. elsewhere next x)
-perform-keeps Pop next s k = pop-keeps s _ k λ w t. elsewhere next t
-perform-keeps Dup next s k = pop-keeps s _ k λ w t m. push-keeps w s _ k λ x. elsewhere next x
-perform-keeps Dup2 next s k = pop-keeps s _ k λ b t m. pop-keeps t _ m λ a u n. push-keeps a s _ k λ x o. push-keeps b x _ o λ y. elsewhere next y
+    let go : ℤ → State → ℕ → ℕ → Step = λ v x w j. goTo next (withHeap (x .registers .free) (set (x .heap) w (withElement kind j v (wordAt (x .heap) w))) x) in
+    pops-two-keep s (λ v i u. pop u λ a x. element kind a i (x .registers .free) (x .heap) (go v x)) k
+    λ v i u m. pop-keeps u (λ a x. element kind a i (x .registers .free) (x .heap) (go v x)) m
+    λ a x o. element-keeps kind a i _ _ (go v x) λ w j. elsewhere next _ (heap-sound _ _ x o (length-set (x .heap) w _) (o .free))
+perform-keeps ArrayLength next s k =
+    let go : State → ℕ → Step = λ t r. push (wordAt (t .heap) r) t (goTo next) in
+    pop-keeps s (λ a t. notNull a (lengthWord a (t .registers .free) (go t))) k λ a t m. null-keeps a _ (length-keeps a (t .registers .free) (go t) λ r. push-keeps (wordAt (t .heap) r) t (goTo next) m (elsewhere next))
+perform-keeps Pop next s k = pop-keeps s (λ w t. goTo next t) k λ w t. elsewhere next t
+perform-keeps Dup next s k = pop-keeps s (λ w t. push w s (goTo next)) k λ w t m. push-keeps w s (goTo next) k (elsewhere next)
+perform-keeps Dup2 next s k =
+    pops-two-keep s (λ b a u. push a s λ x. push b x (goTo next)) k λ b a u m. push-keeps a s (λ x. push b x (goTo next)) k λ x o. push-keeps b x (goTo next) o (elsewhere next)
 perform-keeps (Jump by) next s k = elsewhere _ s k
-perform-keeps (JumpIf r by) next s k = pop-keeps s _ k λ b t m. pop-keeps t _ m λ a u. elsewhere _ u
-perform-keeps (Call by) next s k = call-keeps _ next s k
-perform-keeps Return next s k = if-keeps (ltb 0 (s .registers .top)) _ _ (λ _. return-keeps _ s k) tt
+perform-keeps (JumpIf r by) next s k = pops-two-keep s (λ b a u. goTo (cond (holds r a b) (s .registers .pc +ℤ by) next) u) k λ b a u. elsewhere _ u
+perform-keeps (Call by) next s k = call-keeps (s .registers .pc +ℤ by) next s k
+perform-keeps Return next s k = if-keeps (ltb 0 (s .registers .top)) (returnTo (wordAt (s .call) (s .registers .top - 1)) s) illegal (λ _. return-keeps (wordAt (s .call) (s .registers .top - 1)) s k) tt
 perform-keeps (Enter parameters locals) next s k = enter-keeps parameters locals next s k
-perform-keeps Exit next s k = inside-keeps (s .registers .frame +ℤ negsuc 0) (length (s .call)) _ λ i lt. elsewhere next _ (call-sound _ i (s .call) s k refl (omega arith))
-perform-keeps (Read kind) next s k = if-keeps (ltb (s .registers .height) (length (s .operand))) _ _ (λ e w. elsewhere next _ (push-sound _ s k (ltb-true _ _ e))) tt
-perform-keeps (Print kind) next s k = pop-keeps s _ k λ w t m. pop-keeps t _ m λ v u. elsewhere next u
-perform-keeps (Trap n) next s k = if-keeps (eqb n 1) _ _ (λ _. tt) tt
+perform-keeps Exit next s k =
+    inside-keeps (s .registers .frame +ℤ negsuc 0) (length (s .call)) (λ i. goTo next (withCall (wordAt (s .call) i) i (s .call) s))
+    λ i lt. elsewhere next _ (call-sound (wordAt (s .call) i) i (s .call) s k refl (omega arith))
+perform-keeps (Read kind) next s k =
+    if-keeps (ltb (s .registers .height) (length (s .operand))) (takes (λ w. at next (pushed (kept kind w) s))) illegal (λ e w. elsewhere next _ (push-sound (kept kind w) s k (ltb-true _ _ e))) tt
+perform-keeps (Print kind) next s k = pops-two-keep s (λ w v u. writes (printedAs kind v w) (at next u)) k λ w v u. elsewhere next u
+perform-keeps (Trap n) next s k = if-keeps (eqb n 1) (ends MissingReturn) illegal (λ _. tt) tt
 
 performed-keeps : (o : Option Decoded) (s : State) → Sound s → Keeps (performed o s)
 performed-keeps None s k = tt
