@@ -63,12 +63,12 @@ nothing-exchanged v = record { words = []; bytes = []; taken = refl; put = sym (
 
 in-turn : (v u w : View) → Exchanged v u → Exchanged u w → Exchanged v w
 in-turn v u w a b = record {
-      words = a .words ++ b .words;
-      bytes = a .bytes ++ b .bytes;
-      taken = a .taken ∙ ap (λ l. a .words ++ l) (b .taken) ∙ sym (append-assoc (a .words) (b .words) (w .waiting));
-      put = b .put ∙ ap (λ l. l ++ b .bytes) (a .put) ∙ append-assoc (v .written) (a .bytes) (b .bytes);
-      left = simp length-append (omega (arith, a .left, b .left));
-    }
+  words = a .words ++ b .words;
+  bytes = a .bytes ++ b .bytes;
+  taken = a .taken ∙ ap (λ l. a .words ++ l) (b .taken) ∙ sym (append-assoc (a .words) (b .words) (w .waiting));
+  put = b .put ∙ ap (λ l. l ++ b .bytes) (a .put) ∙ append-assoc (v .written) (a .bytes) (b .bytes);
+  left = simp length-append (omega (arith, a .left, b .left));
+}
 
 at-scene : (v : View) (s t : Scene) → goes s ≡ goes t → Exchanged v (s .console) → Exchanged v (t .console)
 at-scene v s t e x = subst (λ (y : Scene). Exchanged v (y .console)) (same-scene s t e) x
@@ -100,9 +100,9 @@ led-none code s = record { steps = refl; exchanged = nothing-exchanged (s .conso
 pub led-more : (code : List ℕ) (n : ℕ) (from mid to : Scene) → Led code n from mid → turn code mid ≡ goes to → Led code (n + 1) from to
 unfolding after
 led-more code n from mid to l e = record {
-      steps = ap (λ k. after k code from) (add-one n) ∙ ap (onward code) (l .steps) ∙ ap made e;
-      exchanged = in-turn (from .console) (mid .console) (to .console) (l .exchanged) (step-exchanged (step code (mid .state)) (mid .console) to e);
-    }
+  steps = ap (λ k. after k code from) (add-one n) ∙ ap (onward code) (l .steps) ∙ ap made e;
+  exchanged = in-turn (from .console) (mid .console) (to .console) (l .exchanged) (step-exchanged (step code (mid .state)) (mid .console) to e);
+}
 
 -- a turn that halts leaves the scene as it was
 pub halts : (halt : Halt) (code : List ℕ) (budget n : ℕ) (before last : Scene) → n < budget → Turned (Err halt) (turn code before) before last → Halted (Some halt) code budget n last × (last ≡ before)

@@ -26,7 +26,16 @@ pub(crate) struct Rest {
 }
 
 // drive makes steps until one is not made, or the budget is spent.
-fn drive<C: Console>(code: &[u8], r: &mut Registers, budget: u64, data: &mut [i32], heap: &mut [i32], call: &mut [i32], operand: &mut [i32], console: &mut C) -> Rest
+fn drive<C: Console>(
+    code: &[u8],
+    r: &mut Registers,
+    budget: u64,
+    data: &mut [i32],
+    heap: &mut [i32],
+    call: &mut [i32],
+    operand: &mut [i32],
+    console: &mut C,
+) -> Rest
     requires sound { ⌜ Sound (state (now r) (now «data») (now heap) (now call) (now operand)) ⌝ }
     requires short { ⌜ length (now code) ≤ 8192 ⌝ }
     ensures drove { λ o. ⌜ Drove o (now (code .entry)) budget
@@ -37,7 +46,10 @@ fn drive<C: Console>(code: &[u8], r: &mut Registers, budget: u64, data: &mut [i3
     let mut steps: u64 = 0;
     while steps < budget {
         if let Err(halt) = turn(code, r, data, heap, call, operand, console) {
-            return Rest { steps, halt: Some(halt) };
+            return Rest {
+                steps,
+                halt: Some(halt),
+            };
         }
         steps += 1;
     }
@@ -52,21 +64,69 @@ fn same(a: Lengths, b: Lengths) -> bool
 }
 
 // advance runs a machine in its stores, beside any console, for at most budget steps.
-pub fn advance<'a, C: Console>(machine: Machine<'a>, budget: u64, data: &mut [i32], heap: &mut [i32], call: &mut [i32], operand: &mut [i32], console: &mut C) -> Progress<'a>
+pub fn advance<'a, C: Console>(
+    machine: Machine<'a>,
+    budget: u64,
+    data: &mut [i32],
+    heap: &mut [i32],
+    call: &mut [i32],
+    operand: &mut [i32],
+    console: &mut C,
+) -> Progress<'a>
     requires { ⌜ Ready machine ⌝ }
     ensures { λ o. ⌜ AdvancedAs o (machine .entry) budget
         (stores (now («data» .entry)) (now (heap .entry)) (now (call .entry)) (now (operand .entry))) (view (waiting (now (console .entry))) (written (now (console .entry))) (room (now (console .entry))))
         (stores (now («data» .exit)) (now (heap .exit)) (now (call .exit)) (now (operand .exit))) (view (waiting (now (console .exit))) (written (now (console .exit))) (room (now (console .exit)))) ⌝ }
 {
-    let lengths = Lengths { data: data.len(), heap: heap.len(), call: call.len(), operand: operand.len() };
+    let lengths = Lengths {
+        data: data.len(),
+        heap: heap.len(),
+        call: call.len(),
+        operand: operand.len(),
+    };
     if !same(machine.lengths, lengths) {
-        return Progress::Refused { refusal: Refusal::StoreLengthChanged, machine };
+        return Progress::Refused {
+            refusal: Refusal::StoreLengthChanged,
+            machine,
+        };
     }
-    let Machine { code, mut registers, lengths } = machine;
-    let rest = drive(code, &mut registers, budget, data, heap, call, operand, console);
+    let Machine {
+        code,
+        mut registers,
+        lengths,
+    } = machine;
+    let rest = drive(
+        code,
+        &mut registers,
+        budget,
+        data,
+        heap,
+        call,
+        operand,
+        console,
+    );
     match rest.halt {
-        Some(Halt::Ended(verdict)) => Progress::Ended { verdict, steps: rest.steps + 1 },
-        Some(Halt::Paused(pause)) => Progress::Paused { machine: Machine { code, registers, lengths }, pause, steps: rest.steps },
-        None => Progress::Paused { machine: Machine { code, registers, lengths }, pause: Pause::Budget, steps: rest.steps },
+        Some(Halt::Ended(verdict)) => Progress::Ended {
+            verdict,
+            steps: rest.steps + 1,
+        },
+        Some(Halt::Paused(pause)) => Progress::Paused {
+            machine: Machine {
+                code,
+                registers,
+                lengths,
+            },
+            pause,
+            steps: rest.steps,
+        },
+        None => Progress::Paused {
+            machine: Machine {
+                code,
+                registers,
+                lengths,
+            },
+            pause: Pause::Budget,
+            steps: rest.steps,
+        },
     }
 }

@@ -24,9 +24,19 @@ pub struct Machine<'a> {
 #[derive(Drop)]
 pub enum Progress<'a> {
     // Ended is the end of the program: the verdict, and how many steps this run counted.
-    Ended { verdict: Verdict, steps: u64 },
+    Ended {
+        verdict: Verdict,
+        steps: u64,
+    },
     // Paused is a run that stopped early: the machine goes on in another run.
-    Paused { machine: Machine<'a>, pause: Pause, steps: u64 },
+    Paused {
+        machine: Machine<'a>,
+        pause: Pause,
+        steps: u64,
+    },
     // Refused is a run that made no step, since a store's length was not that of the start.
-    Refused { refusal: Refusal, machine: Machine<'a> },
+    Refused {
+        refusal: Refusal,
+        machine: Machine<'a>,
+    },
 }

@@ -23,12 +23,23 @@ fn suffice(globals: usize, n: Lengths) -> bool
 }
 
 // start makes a machine of an inspected object, in four stores that it clears; or refuses the stores, and changes nothing.
-pub fn start<'a>(checked: Checked<'a>, data: &mut [i32], heap: &mut [i32], call: &mut [i32], operand: &mut [i32]) -> Result<Machine<'a>, Refusal>
+pub fn start<'a>(
+    checked: Checked<'a>,
+    data: &mut [i32],
+    heap: &mut [i32],
+    call: &mut [i32],
+    operand: &mut [i32],
+) -> Result<Machine<'a>, Refusal>
     requires { ⌜ WellFormed (objectOf checked) ⌝ }
     ensures { λ r. ⌜ StartedAs (objectOf (checked .entry)) r (stores (now («data» .entry)) (now (heap .entry)) (now (call .entry)) (now (operand .entry)))
         (stores (now («data» .exit)) (now (heap .exit)) (now (call .exit)) (now (operand .exit))) ⌝ }
 {
-    let lengths = Lengths { data: data.len(), heap: heap.len(), call: call.len(), operand: operand.len() };
+    let lengths = Lengths {
+        data: data.len(),
+        heap: heap.len(),
+        call: call.len(),
+        operand: operand.len(),
+    };
     if !suffice(checked.globals(), lengths) {
         return Err(Refusal::UnfitStore);
     }
@@ -37,6 +48,16 @@ pub fn start<'a>(checked: Checked<'a>, data: &mut [i32], heap: &mut [i32], call:
     call.fill(0);
     call[0] = -1;
     operand.fill(0);
-    let registers = Registers { pc: checked.main() as i32, frame: 0, top: 1, height: 0, free: 1 };
-    Ok(Machine { code: checked.code(), registers, lengths })
+    let registers = Registers {
+        pc: checked.main() as i32,
+        frame: 0,
+        top: 1,
+        height: 0,
+        free: 1,
+    };
+    Ok(Machine {
+        code: checked.code(),
+        registers,
+        lengths,
+    })
 }

@@ -23,7 +23,13 @@ pub(crate) enum Halt {
 }
 
 // read takes a word for a read, where one waits.
-fn read<C: Console>(r: &mut Registers, operand: &mut [i32], kind: Kind, next: u16, console: &mut C) -> Result<(), Halt>
+fn read<C: Console>(
+    r: &mut Registers,
+    operand: &mut [i32],
+    kind: Kind,
+    next: u16,
+    console: &mut C,
+) -> Result<(), Halt>
     requires { ⌜ now r .height < length (now operand) ⌝ }
     ensures { λ o. ⌜ Read o kind next
         (now (r .entry)) (now (operand .entry)) (view (waiting (now (console .entry))) (written (now (console .entry))) (room (now (console .entry))))
@@ -42,7 +48,14 @@ fn read<C: Console>(r: &mut Registers, operand: &mut [i32], kind: Kind, next: u1
 }
 
 // print writes the bytes of a print, where there is room.
-fn print<C: Console>(r: &mut Registers, kind: Kind, value: i32, width: i32, next: u16, console: &mut C) -> Result<(), Halt>
+fn print<C: Console>(
+    r: &mut Registers,
+    kind: Kind,
+    value: i32,
+    width: i32,
+    next: u16,
+    console: &mut C,
+) -> Result<(), Halt>
     requires { ⌜ 2 ≤ now r .height ⌝ }
     ensures { λ o. ⌜ Printed o kind value width next
         (now (r .entry)) (view (waiting (now (console .entry))) (written (now (console .entry))) (room (now (console .entry))))
@@ -63,7 +76,12 @@ fn print<C: Console>(r: &mut Registers, kind: Kind, value: i32, width: i32, next
 }
 
 // exchange does what a step's effect wants of the console.
-fn exchange<C: Console>(effect: Effect, r: &mut Registers, operand: &mut [i32], console: &mut C) -> Result<(), Halt>
+fn exchange<C: Console>(
+    effect: Effect,
+    r: &mut Registers,
+    operand: &mut [i32],
+    console: &mut C,
+) -> Result<(), Halt>
     requires { ⌜ Wanted effect (now r) (now operand) ⌝ }
     ensures { λ o. ⌜ ExchangedAs o effect
         (now (r .entry)) (now (operand .entry)) (view (waiting (now (console .entry))) (written (now (console .entry))) (room (now (console .entry))))
@@ -72,12 +90,25 @@ fn exchange<C: Console>(effect: Effect, r: &mut Registers, operand: &mut [i32], 
     match effect {
         Effect::Moved => Ok(()),
         Effect::Takes { kind, next } => read(r, operand, kind, next, console),
-        Effect::Writes { kind, value, width, next } => print(r, kind, value, width, next, console),
+        Effect::Writes {
+            kind,
+            value,
+            width,
+            next,
+        } => print(r, kind, value, width, next, console),
     }
 }
 
 // turn makes one step beside a console, or tells why none is made.
-pub(crate) fn turn<C: Console>(code: &[u8], r: &mut Registers, data: &mut [i32], heap: &mut [i32], call: &mut [i32], operand: &mut [i32], console: &mut C) -> Result<(), Halt>
+pub(crate) fn turn<C: Console>(
+    code: &[u8],
+    r: &mut Registers,
+    data: &mut [i32],
+    heap: &mut [i32],
+    call: &mut [i32],
+    operand: &mut [i32],
+    console: &mut C,
+) -> Result<(), Halt>
     requires sound { ⌜ Sound (state (now r) (now «data») (now heap) (now call) (now operand)) ⌝ }
     requires short { ⌜ length (now code) ≤ 8192 ⌝ }
     ensures { λ o. ⌜ TurnedAt o (now (code .entry))

@@ -15,7 +15,8 @@ returns-in-Takes g c d h k =
     let x = c .args .console .now in
     let s : State = state (c .args .r .now) d h k (c .args .operand .now) in
     let v : View = view (o .waiting x) (o .written x) (o .room x) in
-    subst (λ (e : Effect). Turned (c .read .result) (turnOf (stepOf e s) v) (scene s v) _) (sym (c .in-Takes .is)) (c .read .ensures d h k)
+    let m = c .read .last in
+    subst (λ (e : Effect). Turned (c .read .result) (turnOf (stepOf e s) v) (scene s v) (scene (state (m .r) d h k (m .operand)) (view (o .waiting (m .console)) (o .written (m .console)) (o .room (m .console))))) (sym (c .in-Takes .is)) (c .read .ensures d h k)
 
 pub returns-in-Writes : need.returns-in-Writes
 returns-in-Writes g c d h k =
@@ -25,4 +26,5 @@ returns-in-Writes g c d h k =
     let v : View = view (o .waiting x) (o .written x) (o .room x) in
     let m : SFits w32 (c .in-Writes .value) = search needs in
     let n : SFits w32 (c .in-Writes .width) = search needs in
-    subst (λ (e : Effect). Turned (c .print .result) (turnOf (stepOf e s) v) (scene s v) _) (sym (c .in-Writes .is)) (simp toZ-ofZ at (c .print .ensures d h k (c .args .operand .now)))
+    let l = c .print .last in
+    subst (λ (e : Effect). Turned (c .print .result) (turnOf (stepOf e s) v) (scene s v) (scene (state (l .r) d h k (c .args .operand .now)) (view (o .waiting (l .console)) (o .written (l .console)) (o .room (l .console))))) (sym (c .in-Writes .is)) (simp toZ-ofZ at (c .print .ensures d h k (c .args .operand .now)))
