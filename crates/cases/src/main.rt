@@ -77,14 +77,14 @@ fn check_file(rt: &LibcRuntime, file: &str, trial: Trial) -> Result<bool, AnyErr
     let mut fit: u32 = 0;
     let mut differing: u32 = 0;
     // the first line explains the others
-    for line in text.as_str().lines().skip(1) {
+    for (number, line) in text.as_str().lines().enumerate().skip(1) {
         let (given, expected) = line.split_once(" => ").ok_or("a line has no answer")?;
         match tried(rt.alloc(), trial, given, expected)? {
             Finding::AsExpected => fit = fit.saturating_add(1),
             Finding::Differs(how) => {
                 differing = differing.saturating_add(1);
                 if differing <= SHOWN {
-                    println!(rt, "{file}, {trial}: {how}")?;
+                    println!(rt, "{file}, {trial}, case {number}: {how}")?;
                 }
             }
             Finding::LeftOut => {}
