@@ -14,8 +14,8 @@ use Rattle.step.specs.declared.registers.Registers.{Registers}
 use Rattle.machine.specs.Runs.{View, Scene, scene, turn, onward, after, Exchanged, Led}
 use Rattle.machine.specs.Machines.{Stores, stateWith}
 use Rattle.machine.specs.Answers.{EndsWith, PausesAt}
-use Rattle.samples.specs.declared.host.Stop.the-variants.{Ended, Paused}
-use Rattle.samples.specs.Hosting.{Drove}
+use Rattle.samples.specs.declared.execute.Stop.the-variants.{Ended, Paused}
+use Rattle.samples.specs.Executing.{Drove}
 
 nothing-exchanged : (v : View) → Exchanged v v
 nothing-exchanged v = record { words = []; bytes = []; taken = refl; put = sym (append-nil (v .written)); left = omega arith }

@@ -1,1 +1,3 @@
-pub mod Hosting
+pub mod Beginning
+pub mod Resuming
+pub mod Executing

@@ -1,13 +1,12 @@
+use crate::begin::Unfit;
+use crate::begin::begin;
 use console::Console;
 use machine::advance::advance;
 use machine::machine::Machine;
 use machine::machine::Progress;
-use machine::start::start;
-use object::inspect::inspect;
 use outcomes::Pause;
 use outcomes::PauseDebug;
 use outcomes::PausePartialEq;
-use outcomes::Refusal;
 use outcomes::Verdict;
 use outcomes::VerdictDebug;
 use outcomes::VerdictPartialEq;
@@ -15,7 +14,7 @@ ghost use Prim.Native.Nat.{_<_};
 ghost use Rattle.machine.specs.Machines.{Ready, lengthsOf, stateIn, stores};
 ghost use Rattle.machine.specs.Runs.{scene, view};
 ghost use Rattle.outcomes.specs.declared.Pause.the-variants.{Budget};
-ghost use Rattle.samples.specs.Hosting.{Drove, ExecutedAs};
+ghost use Rattle.samples.specs.Executing.{Drove, ExecutedAs};
 ghost use Rattle.std.specs.Orderings.{Decides};
 ghost use mathlib.Core.Path.{_≡_};
 
@@ -92,7 +91,7 @@ fn drive<C: Console>(
     }
 }
 
-// execute inspects an object, starts it in four stores, and runs it beside a console for at most budget steps.
+// execute begins a file's object in four stores, and runs it beside a console for at most budget steps.
 pub fn execute<C: Console>(
     object: &[u8],
     budget: u64,
@@ -101,16 +100,13 @@ pub fn execute<C: Console>(
     call: &mut [i32],
     operand: &mut [i32],
     console: &mut C,
-) -> Result<Report, Refusal>
+) -> Result<Report, Unfit>
     ensures { λ r. ⌜ ExecutedAs r (now (object .entry)) budget
         (stores (now («data» .entry)) (now (heap .entry)) (now (call .entry)) (now (operand .entry))) (view (waiting (now (console .entry))) (written (now (console .entry))) (room (now (console .entry))))
         (stores (now («data» .exit)) (now (heap .exit)) (now (call .exit)) (now (operand .exit))) (view (waiting (now (console .exit))) (written (now (console .exit))) (room (now (console .exit)))) ⌝ }
 {
-    match inspect(object) {
-        Ok(checked) => match start(checked, data, heap, call, operand) {
-            Ok(machine) => Ok(drive(machine, budget, data, heap, call, operand, console)),
-            Err(refusal) => Err(refusal),
-        },
-        Err(fault) => Err(fault.refusal),
+    match begin(object, data, heap, call, operand) {
+        Ok(machine) => Ok(drive(machine, budget, data, heap, call, operand, console)),
+        Err(unfit) => Err(unfit),
     }
 }

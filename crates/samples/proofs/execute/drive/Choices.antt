@@ -3,7 +3,7 @@ use mathlib.Core.Path.{_≡_}
 use denote.Ref.{now}
 use Rattle.machine.specs.Machines.{Ready, lengthsOf, stateIn, stores}
 use Rattle.machine.specs.Runs.{scene, view, Led}
-use Rattle.samples.proofs.host.drive.Given as given
+use Rattle.samples.proofs.execute.drive.Given as given
 
 abbrev pub Inv-loop-verdict : given.InvT-loop-verdict
 Inv-loop-verdict g l =

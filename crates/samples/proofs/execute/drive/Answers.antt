@@ -5,7 +5,7 @@ use Prim.Native.Nat.{ℕ, _+_, _≤_}
 use lib.ListN.{length}
 use Rattle.machine.specs.Machines.{lengthsOf, stores}
 use Rattle.samples.proofs.Joining.{led-none, led-joined, ends-joined, pauses-joined}
-use Rattle.samples.proofs.host.drive.Needs as need
+use Rattle.samples.proofs.execute.drive.Needs as need
 
 pub loop-verdict-holds : need.loop-verdict-holds
 loop-verdict-holds g c = (c .pre .ready, refl, c .pre .lengths, omega arith, led-none _ _)
