@@ -3,5 +3,9 @@ pub mod Names
 pub mod Words
 pub mod Json
 pub mod Report
+pub mod Replies
 pub mod Mnemonics
 pub mod Failures
+pub mod Numbers
+pub mod Understood
+pub mod Arguments

@@ -9,11 +9,14 @@
 // words.rt: lists of words as text. hex.rt: bytes as text. listing.rt: code as text. mnemonics.rt: the names of opcodes.
 // docs/command-line.md: the rules.
 pub mod answer;
+pub mod arguments;
 pub mod failure;
 mod hex;
 mod json;
 mod mnemonics;
 mod names;
+mod numbers;
+pub mod reply;
 mod report;
 pub mod request;
 mod words;

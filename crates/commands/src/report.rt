@@ -1,10 +1,11 @@
 use crate::answer::Report;
 use crate::answer::Stop;
+use crate::answer::Summary;
 use crate::names::pause_name;
 use crate::names::refusal_words;
 use crate::names::verdict_name;
 use crate::words::each_behind;
-ghost use Rattle.commands.specs.Report.{faultLine, globalsText, lineEnd, output, refusalLine, reportLines, stopLine};
+ghost use Rattle.commands.specs.Report.{faultLine, globalsText, lineEnd, output, refusalLine, reportLines, stopLine, summaryLine};
 ghost use Rattle.std.specs.Of.String.{string-bytes};
 ghost use Rattle.std.specs.Of.Vec.{vec-items};
 ghost use Rattle.std.specs.Vec.{made};
@@ -75,6 +76,14 @@ pub(crate) fn report_output(heap: Global, report: &Report<'_>) -> Result<Vec<u8>
     bytes.extend_from_slice(line_end(report.bytes))?;
     bytes.extend_from_slice(lines.as_bytes())?;
     Ok(bytes)
+}
+
+// summary_line tells what the header of an accepted file says.
+pub(crate) fn summary_line(heap: Global, summary: Summary) -> Result<String, AllocError>
+    ensures { λ r. ⌜ made r (λ text. string-bytes text ≡ summaryLine summary) ⌝ }
+{
+    let Summary { code_size, globals, main } = summary;
+    format!(heap, "code size {code_size}, globals {globals}, main address {main}\n")
 }
 
 // fault_line tells why a file is refused, and where.
