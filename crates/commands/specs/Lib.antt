@@ -5,6 +5,7 @@ pub mod Json
 pub mod Report
 pub mod Replies
 pub mod Mnemonics
+pub mod Listing
 pub mod Failures
 pub mod Numbers
 pub mod Understood

@@ -13,6 +13,7 @@ pub mod arguments;
 pub mod failure;
 mod hex;
 mod json;
+pub mod listing;
 mod mnemonics;
 mod names;
 mod numbers;

@@ -8,7 +8,8 @@ use lib.Seq.{take-set-le, take-set-lt, take-append-le}
 use Rattle.std.proofs.shelf.Lists.{take-more-set, take-more, drop-more, drop-all, take-all, drop-set-add, drop-set-lt, set-append-left, set-append-right}
 use Rattle.std.proofs.shelf.Tests.{cond-both, ltb-true, ltb-false}
 use lib.Dec.{ltb}
-use Rattle.console.specs.Rounds.{along, round, wrapped}
+use Rattle.console.specs.Inner.{wrapped}
+use Rattle.console.specs.Rounds.{along, round}
 
 -- reading round from any place finds as many items as there are places
 pub length-round : {A : Type 0} (f : ℕ) (xs : List A) → f ≤ length xs → length (round f xs) ≡ length xs

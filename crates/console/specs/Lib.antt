@@ -1,4 +1,5 @@
 pub mod Calls
+pub mod Inner
 pub mod Rings
 pub mod Rounds
 pub mod Slices

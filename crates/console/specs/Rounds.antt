@@ -1,8 +1,6 @@
 -- The places of a ring, read round from any of them.
-use mathlib.Core.Bool.{cond}
 use mathlib.Core.List.{List, _++_}
-use Prim.Native.Nat.{ℕ, _-_}
-use lib.Dec.{ltb}
+use Prim.Native.Nat.{ℕ}
 use lib.ListN.{take, drop}
 
 -- all items, read round from the place `first`
@@ -12,7 +10,3 @@ round first items = drop first items ++ take first items
 -- the first `count` of them
 abbrev pub along : {A : Type 0} → ℕ → ℕ → List A → List A
 along first count items = take count (round first items)
-
--- a place counted past the end of n places, counted from the start again
-abbrev pub wrapped : ℕ → ℕ → ℕ
-wrapped n place = cond (ltb place n) place (place - n)

@@ -1,12 +1,10 @@
 -- What a console over lent memory holds.
-use mathlib.Core.List.{List, [], _∷_}
+use mathlib.Core.List.{List}
 use mathlib.Core.Path.{_≡_}
-use Prim.Native.Nat.{ℕ, _+_, _-_}
+use Prim.Native.Nat.{ℕ, _-_}
 use lib.IntN.{ℤ}
 use lib.ListN.{length, take, drop}
 use denote.Ref.{now}
-use Rattle.std.specs.declared.option.Option.{Option}
-use Rattle.std.specs.declared.option.Option.the-variants.{Some, None}
 use Rattle.console.specs.declared.slice_console.SliceConsole.{SliceConsole}
 
 -- the lent list of words
@@ -21,19 +19,9 @@ lentBytes console = now (console .buffer)
 abbrev pub waiting : SliceConsole → List ℤ
 waiting console = drop (console .taken) (lentWords console)
 
--- the words that wait behind the next one
-abbrev pub others : SliceConsole → List ℤ
-others console = drop (console .taken + 1) (lentWords console)
-
 -- the bytes written: the first ones of the buffer
 abbrev pub written : SliceConsole → List ℕ
 written console = take (console .filled) (lentBytes console)
-
--- the next word is the first that waits, and the others stay when it is taken
-abbrev pub Next : Option ℤ → SliceConsole → Type 0
-Next None console = waiting console ≡ []
-Next (Some word) console =
-    (waiting console ≡ word ∷ others console) × (length (waiting console) ≡ length (others console) + 1)
 
 -- how many bytes more fit: the rest of the buffer
 abbrev pub room : SliceConsole → ℕ

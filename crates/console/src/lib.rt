@@ -14,6 +14,7 @@
 // specs/Slices.antt: what a console over lent memory holds.
 // specs/Rounds.antt: the places of a ring, read round.
 // specs/Rings.antt: what a ring and a console over two rings hold, and what feed does.
+// specs/Inner.antt: what the private functions promise one another.
 // proofs/: the laws of a ring, and of loops that append or move items.
 mod ring;
 mod ring_console;

@@ -7,8 +7,10 @@ ghost use mathlib.Core.List.{[], _++_};
 ghost use mathlib.Core.Path.{_≡_};
 ghost use Rattle.console.specs.Rings.{Feeds, bytePlaces, room, waiting, written};
 
+// WORDS is how many words can wait.
 const WORDS: usize = 256;
 
+// BYTES is how many bytes can be written and not drained.
 const BYTES: usize = 512;
 
 // RingConsole owns its memory: the host feeds it words and drains its bytes.

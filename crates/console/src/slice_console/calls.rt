@@ -3,7 +3,8 @@ use crate::Console;
 use outcomes::Refusal;
 ghost use mathlib.Core.Path.{_≡_};
 ghost use Rattle.console.specs.Calls.{Fits, Puts, Takes};
-ghost use Rattle.console.specs.Slices.{LeavesLent, Next, room, waiting, written};
+ghost use Rattle.console.specs.Inner.{Next};
+ghost use Rattle.console.specs.Slices.{LeavesLent, room, waiting, written};
 
 impl SliceConsole<'_, '_> {
     // next_word is the first word that waits.

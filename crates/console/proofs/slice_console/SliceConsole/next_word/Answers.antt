@@ -8,7 +8,7 @@ use mir.Syntax.{w32}
 use mir.Val.{SFits}
 use Rattle.std.proofs.shelf.Lists.{drop-all, drop-more}
 use Rattle.std.proofs.shelf.Signed.{toZ-ofZ}
-use Rattle.console.specs.Slices.{others}
+use Rattle.console.specs.Inner.{others}
 use Rattle.console.proofs.slice_console.SliceConsole.next_word.Needs as need
 
 pub returns-then-self : need.returns-then-self
