@@ -67,15 +67,15 @@ operandsText at d = cond (eqb (d .size) 1) [] (operandsOf at (d .instruction))
 abbrev pub lineOf : ℕ → ℕ → Decoded → List ℕ
 lineOf at opcode d = texts (offsetText at ∷ codes "  " ∷ mnemonicOf opcode ∷ operandsText at d ∷ codes "\n" ∷ [])
 
--- at most n instructions, the first of which stands at an offset
-mutual
-  unfoldable pub lines : ℕ → ℕ → List ℕ → List ℕ
-  lines zero at code = []
-  lines (suc n) at code = lineThen n at code (decoded code)
+-- nothing where no complete instruction stands
+abbrev pub lineThen : ℕ → List ℕ → Option Decoded → (Decoded → List ℕ) → List ℕ
+lineThen at code None more = []
+lineThen at code (Some d) more = lineOf at (getD code at 0) d ++ more d
 
-  unfoldable pub lineThen : ℕ → ℕ → List ℕ → Option Decoded → List ℕ
-  lineThen n at code None = []
-  lineThen n at code (Some d) = lineOf at (getD code 0 0) d ++ lines n (at + d .size) (drop (d .size) code)
+-- at most n instructions, the first of which stands at an offset
+unfoldable pub lines : ℕ → ℕ → List ℕ → List ℕ
+lines zero at code = []
+lines (suc n) at code = lineThen at code (decoded (drop at code)) (λ d. lines n (at + d .size) code)
 
 -- no code has more instructions than bytes
 abbrev pub listingOf : List ℕ → List ℕ

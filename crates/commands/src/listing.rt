@@ -1,7 +1,9 @@
 use crate::mnemonics::mnemonic;
+ghost use Prim.Native.Nat.{_-_};
 ghost use Rattle.commands.specs.Listing.{lineOf, listingOf, offsetText, operandsOf, operandsText};
 ghost use Rattle.std.specs.Of.String.{string-bytes};
 ghost use Rattle.std.specs.Vec.{made};
+ghost use lib.ListN.{replicate};
 ghost use mathlib.Core.Path.{_≡_};
 use instructions::Decoded;
 use instructions::Instruction;
@@ -10,20 +12,26 @@ use std::alloc::AllocError;
 use std::alloc::Global;
 use words::printing::Kind;
 
+// blanks fills what is left of four columns.
+fn blanks(written: usize) -> &'static str
+    ensures { λ r. ⌜ now r ≡ replicate (4 - written) 32 ⌝ }
+{
+    match written {
+        0 => "    ",
+        1 => "   ",
+        2 => "  ",
+        3 => " ",
+        _ => "",
+    }
+}
+
 // offset_text is a code offset with blanks in front, up to four columns.
 fn offset_text(heap: Global, at: usize) -> Result<String, AllocError>
     ensures { λ r. ⌜ made r (λ text. string-bytes text ≡ offsetText at) ⌝ }
 {
-    let blanks = if at < 10 {
-        "   "
-    } else if at < 100 {
-        "  "
-    } else if at < 1000 {
-        " "
-    } else {
-        ""
-    };
-    format!(heap, "{blanks}{at}")
+    let digits = at.to_string(heap)?;
+    let blanks = blanks(digits.len());
+    format!(heap, "{blanks}{digits}")
 }
 
 // operands_of is the operands of an instruction in its long form, a blank in front of each.
