@@ -9,14 +9,14 @@ use Rattle.std.proofs.shelf.Lists.{drop-all}
 use Rattle.instructions.specs.Decode.{decoded}
 use Rattle.instructions.specs.declared.Decoded.{Decoded}
 use Rattle.object.proofs.Sizes.{decoded-size, nothing}
-use Rattle.commands.specs.Listing.{lineOf, lineThen, lines, listingOf}
+use Rattle.commands.specs.Listing.{lineOf, lineThen, lines, linesOf}
 
 -- what is written and what is left make the whole
 pub record Left (code text : List ℕ) (at : ℕ) : Type 0 where
   pub most : ℕ
   pub enough : length code ≤ most + at
   pub inside : at ≤ length code
-  pub whole : text ++ lines most at code ≡ listingOf code
+  pub whole : text ++ lines most at code ≡ linesOf code
 
 pub left-all : (code : List ℕ) → Left code [] 0
 left-all code = record { most = length code; enough = omega arith; inside = omega arith; whole = refl }
@@ -42,5 +42,5 @@ unfolding lines
 lines-none zero at code e = refl
 lines-none (suc n) at code e = ap (λ o. lineThen at code o (λ x. lines n (at + x .size) code)) e
 
-pub left-none : (code text : List ℕ) (at : ℕ) → Left code text at → decoded (drop at code) ≡ None → text ≡ listingOf code
+pub left-none : (code text : List ℕ) (at : ℕ) → Left code text at → decoded (drop at code) ≡ None → text ≡ linesOf code
 left-none code text at l e = sym (append-nil text) ∙ ap (λ t. text ++ t) (sym (lines-none (l .most) at code e)) ∙ l .whole

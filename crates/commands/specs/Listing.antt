@@ -15,7 +15,9 @@ use Rattle.instructions.specs.Decode.{decoded}
 use Rattle.instructions.specs.declared.Decoded.{Decoded}
 use Rattle.instructions.specs.declared.Instruction.{Instruction}
 use Rattle.instructions.specs.declared.Instruction.the-variants.{Load, Store, GetStatic, PutStatic, Const, Binary, Negate, Increment, NewArray, ArrayLoad, ArrayStore, ArrayLength, Pop, Dup, Dup2, Jump, JumpIf, Call, Return, Enter, Exit, Read, Print, Trap}
+use Rattle.commands.specs.declared.answer.Summary.{Summary}
 use Rattle.commands.specs.Mnemonics.{mnemonicOf}
+use Rattle.commands.specs.Report.{summaryLine}
 use Rattle.commands.specs.Texts.{texts}
 
 -- blanks in front, up to four columns
@@ -78,5 +80,9 @@ lines zero at code = []
 lines (suc n) at code = lineThen at code (decoded (drop at code)) (λ d. lines n (at + d .size) code)
 
 -- no code has more instructions than bytes
-abbrev pub listingOf : List ℕ → List ℕ
-listingOf code = lines (length code) 0 code
+abbrev pub linesOf : List ℕ → List ℕ
+linesOf code = lines (length code) 0 code
+
+-- the line of `check`, and then the instructions
+abbrev pub listingOf : Summary → List ℕ → List ℕ
+listingOf s code = summaryLine s ++ linesOf code

@@ -1,6 +1,8 @@
+use crate::answer::Summary;
 use crate::mnemonics::mnemonic;
+use crate::report::summary_line;
 ghost use Prim.Native.Nat.{_-_};
-ghost use Rattle.commands.specs.Listing.{lineOf, listingOf, offsetText, operandsOf, operandsText};
+ghost use Rattle.commands.specs.Listing.{lineOf, linesOf, listingOf, offsetText, operandsOf, operandsText};
 ghost use Rattle.std.specs.Of.String.{string-bytes};
 ghost use Rattle.std.specs.Vec.{made};
 ghost use lib.ListN.{replicate};
@@ -75,9 +77,9 @@ fn line_of(heap: Global, at: usize, opcode: u8, found: Decoded) -> Result<String
     format!(heap, "{offset}  {name}{operands}\n")
 }
 
-// listing is a line for each instruction of the code, as far as there are complete ones.
-pub fn listing(heap: Global, code: &[u8]) -> Result<String, AllocError>
-    ensures { λ r. ⌜ made r (λ text. string-bytes text ≡ listingOf (now (code .entry))) ⌝ }
+// lines_of is a line for each instruction of the code, as far as there are complete ones.
+fn lines_of(heap: Global, code: &[u8]) -> Result<String, AllocError>
+    ensures { λ r. ⌜ made r (λ text. string-bytes text ≡ linesOf (now (code .entry))) ⌝ }
 {
     let mut text = String::new(heap);
     let mut at = 0;
@@ -86,5 +88,15 @@ pub fn listing(heap: Global, code: &[u8]) -> Result<String, AllocError>
         text.push_str(line.as_str())?;
         at += found.size as usize;
     }
+    Ok(text)
+}
+
+// listing is what the header of an accepted file says, and then its code.
+pub fn listing(heap: Global, summary: Summary, code: &[u8]) -> Result<String, AllocError>
+    ensures { λ r. ⌜ made r (λ text. string-bytes text ≡ listingOf summary (now (code .entry))) ⌝ }
+{
+    let mut text = summary_line(heap, summary)?;
+    let lines = lines_of(heap, code)?;
+    text.push_str(lines.as_str())?;
     Ok(text)
 }

@@ -1,7 +1,7 @@
 use Prim.Native.Nat.{_-_}
 use lib.ListN.{length}
 use Rattle.commands.proofs.Lines.{Left}
-use Rattle.commands.proofs.listing.listing.Given as given
+use Rattle.commands.proofs.listing.lines_of.Given as given
 use Rattle.std.specs.Of.String.{string-bytes}
 
 abbrev pub Inv-loop-found : given.InvT-loop-found

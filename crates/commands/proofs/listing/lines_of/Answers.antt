@@ -8,7 +8,7 @@ use Rattle.std.proofs.shelf.Lists.{take-rest}
 use Rattle.instructions.specs.Decode.{decoded}
 use Rattle.object.proofs.Sizes.{decoded-size}
 use Rattle.commands.proofs.Lines.{left-all, left-more, left-none}
-use Rattle.commands.proofs.listing.listing.Needs as need
+use Rattle.commands.proofs.listing.lines_of.Needs as need
 
 reads : (c : need.After-drop-line-in-Some) → decoded (drop (c .loop-found .at) (c .args .code .now)) ≡ Some (c .in-Some .found)
 reads c = ap decoded (sym (take-rest (c .args .code .now) (c .loop-found .at))) ∙ sym (c .decode .ensures) ∙ c .in-Some .is
