@@ -1,8 +1,8 @@
 -- Answers as JSON: one object on a line, keys in alphabetical order, no blanks.
 use mathlib.Core.List.{List, [], _∷_, _++_}
 use Prim.Native.Nat.{ℕ}
-use denote.Ref.{now}
 use lib.Chars.{codes}
+use Rattle.std.specs.Of.Vec.{vec-items}
 use Rattle.std.specs.Written.{decimal}
 use Rattle.outcomes.specs.Numbers.{numberOfVerdict, numberOfRefusal}
 use Rattle.commands.specs.declared.answer.Answer.{Answer}
@@ -27,8 +27,8 @@ verdictKey (Paused p) = []
 abbrev pub reportJson : Report → List ℕ
 reportJson r =
     texts
-      (codes "{\"bytes\":\"" ∷ hexOf (now (r .bytes))
-      ∷ codes "\",\"globals\":[" ∷ listed (now (r .globals))
+      (codes "{\"bytes\":\"" ∷ hexOf (vec-items (r .bytes))
+      ∷ codes "\",\"globals\":[" ∷ listed (vec-items (r .globals))
       ∷ codes "],\"ok\":true,\"steps\":" ∷ decimal (r .steps)
       ∷ codes ",\"stop\":\"" ∷ stopName (r .stop)
       ∷ codes "\",\"taken\":" ∷ decimal (r .taken) ∷ verdictKey (r .stop) ∷ codes "}\n" ∷ [])

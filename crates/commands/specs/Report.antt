@@ -2,11 +2,11 @@
 use mathlib.Core.Bool.{cond}
 use mathlib.Core.List.{List, [], _∷_, _++_}
 use Prim.Native.Nat.{ℕ, _-_}
-use denote.Ref.{now}
 use lib.Chars.{codes}
 use lib.Dec.{eqb}
 use lib.IntN.{ℤ}
 use lib.ListN.{length, getD}
+use Rattle.std.specs.Of.Vec.{vec-items}
 use Rattle.std.specs.Written.{decimal}
 use Rattle.outcomes.specs.Numbers.{numberOfVerdict, numberOfPause, numberOfRefusal}
 use Rattle.outcomes.specs.declared.Refusal.{Refusal}
@@ -52,8 +52,8 @@ reportLines r =
       (stopLine (r .stop)
       ∷ codes "steps: " ∷ decimal (r .steps)
       ∷ codes "\nwords taken: " ∷ decimal (r .taken)
-      ∷ codes "\nbytes written: " ∷ decimal (length (now (r .bytes)))
-      ∷ codes "\nglobals:" ∷ globalsText (now (r .globals)) ∷ codes "\n" ∷ [])
+      ∷ codes "\nbytes written: " ∷ decimal (length (vec-items (r .bytes)))
+      ∷ codes "\nglobals:" ∷ globalsText (vec-items (r .globals)) ∷ codes "\n" ∷ [])
 
 -- bytes that do not end a line have a line feed added
 abbrev pub lineEnd : List ℕ → List ℕ
@@ -61,4 +61,4 @@ lineEnd bytes = cond (eqb (length bytes) 0) [] (cond (eqb (getD bytes (length by
 
 -- the bytes that the program wrote, and then what its run did
 abbrev pub output : Report → List ℕ
-output r = (now (r .bytes) ++ lineEnd (now (r .bytes))) ++ reportLines r
+output r = (vec-items (r .bytes) ++ lineEnd (vec-items (r .bytes))) ++ reportLines r

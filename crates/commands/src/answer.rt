@@ -4,12 +4,12 @@ use outcomes::Refusal;
 use outcomes::Verdict;
 
 // Answer is what a command has to say about a file or a run.
-#[derive(Clone, Copy)]
-pub enum Answer<'a> {
+#[derive(Drop)]
+pub enum Answer {
     Accepted(Summary),
     FileRefused(ObjectFault),
     StartRefused(Refusal),
-    Ran(Report<'a>),
+    Ran(Report),
 }
 
 // Summary is what the header of an accepted file says.
@@ -21,13 +21,13 @@ pub struct Summary {
 }
 
 // Report is what one run did.
-#[derive(Clone, Copy)]
-pub struct Report<'a> {
+#[derive(Drop)]
+pub struct Report {
     pub stop: Stop,
     pub steps: u64,
     pub taken: usize,
-    pub bytes: &'a [u8],
-    pub globals: &'a [i32],
+    pub bytes: Vec<u8>,
+    pub globals: Vec<i32>,
 }
 
 // Stop is how a run came to its end.

@@ -35,11 +35,11 @@ fn verdict_key(heap: Global, stop: Stop) -> Result<String, AllocError>
 }
 
 // report_json is what a run did, as a JSON object.
-fn report_json(heap: Global, report: &Report<'_>) -> Result<String, AllocError>
+fn report_json(heap: Global, report: &Report) -> Result<String, AllocError>
     ensures { λ r. ⌜ made r (λ text. string-bytes text ≡ reportJson (now (report .entry))) ⌝ }
 {
-    let bytes = hex(heap, report.bytes)?;
-    let globals = separated(heap, report.globals)?;
+    let bytes = hex(heap, &report.bytes)?;
+    let globals = separated(heap, &report.globals)?;
     let steps = report.steps;
     let stop = stop_name(report.stop);
     let taken = report.taken;
@@ -51,7 +51,7 @@ fn report_json(heap: Global, report: &Report<'_>) -> Result<String, AllocError>
 }
 
 // json_of is an answer as one JSON object on a line.
-pub(crate) fn json_of(heap: Global, answer: &Answer<'_>) -> Result<String, AllocError>
+pub(crate) fn json_of(heap: Global, answer: &Answer) -> Result<String, AllocError>
     ensures { λ r. ⌜ made r (λ text. string-bytes text ≡ jsonOf (now (answer .entry))) ⌝ }
 {
     match answer {

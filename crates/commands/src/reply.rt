@@ -19,7 +19,7 @@ pub enum Reply {
 }
 
 // reply_to gives what is printed for an answer about the file at a path.
-pub fn reply_to(heap: Global, path: &str, json: bool, answer: &Answer<'_>) -> Result<Reply, AllocError>
+pub fn reply_to(heap: Global, path: &str, json: bool, answer: &Answer) -> Result<Reply, AllocError>
     ensures { λ r. ⌜ made r (λ reply. printedBy reply ≡ replyTo (now (path .entry)) json (now (answer .entry))) ⌝ }
 {
     if json {

@@ -45,14 +45,14 @@ fn globals_text(heap: Global, globals: &[i32]) -> Result<String, AllocError>
 }
 
 // report_lines is what a run did, in five lines.
-fn report_lines(heap: Global, report: &Report<'_>) -> Result<String, AllocError>
+fn report_lines(heap: Global, report: &Report) -> Result<String, AllocError>
     ensures { λ r. ⌜ made r (λ text. string-bytes text ≡ reportLines (now (report .entry))) ⌝ }
 {
     let stop = stop_line(heap, report.stop)?;
     let steps = report.steps;
     let taken = report.taken;
     let written = report.bytes.len();
-    let globals = globals_text(heap, report.globals)?;
+    let globals = globals_text(heap, &report.globals)?;
     format!(heap, "{stop}steps: {steps}\nwords taken: {taken}\nbytes written: {written}\nglobals:{globals}\n")
 }
 
@@ -68,12 +68,12 @@ fn line_end(bytes: &[u8]) -> &'static [u8]
 }
 
 // report_output is what the program wrote, and then what its run did.
-pub(crate) fn report_output(heap: Global, report: &Report<'_>) -> Result<Vec<u8>, AllocError>
+pub(crate) fn report_output(heap: Global, report: &Report) -> Result<Vec<u8>, AllocError>
     ensures { λ r. ⌜ made r (λ bytes. vec-items bytes ≡ output (now (report .entry))) ⌝ }
 {
     let lines = report_lines(heap, report)?;
-    let mut bytes = report.bytes.to_vec(heap)?;
-    bytes.extend_from_slice(line_end(report.bytes))?;
+    let mut bytes = report.bytes.as_slice().to_vec(heap)?;
+    bytes.extend_from_slice(line_end(&report.bytes))?;
     bytes.extend_from_slice(lines.as_bytes())?;
     Ok(bytes)
 }

@@ -1,4 +1,10 @@
+use mathlib.Core.Path.{ap, _∙_}
+use Rattle.commands.specs.Words.{listed, hexOf}
 use Rattle.commands.proofs.json.report_json.Needs as need
 
 pub returns : need.returns
-returns c = let b = c .in-Continue-bytes .ensures tt in let g = c .in-Continue-globals .ensures tt in let v = c .in-Continue-verdict .ensures tt in rw (← b, ← g, ← c .stop-name-stop .ensures, ← v) (c .format .ensures .made)
+returns c =
+    let bytes = c .in-Continue-bytes .ensures tt ∙ ap hexOf (c .deref .ensures .value) in
+    let globals = c .in-Continue-globals .ensures tt ∙ ap listed (c .deref-2 .ensures .value) in
+    let verdict = c .in-Continue-verdict .ensures tt in
+    rw (← bytes, ← globals, ← c .stop-name-stop .ensures, ← verdict) (c .format .ensures .made)
