@@ -73,12 +73,12 @@ orWord None w = mapped argument.Word w
 abbrev pub optionNamed : List ℕ → Option Argument
 optionNamed =
     named
-      ((codes "--json", argument.Json)
-      ∷ (codes "--budget", argument.Setting setting.Budget)
-      ∷ (codes "--heap", argument.Setting setting.Heap)
-      ∷ (codes "--call", argument.Setting setting.Call)
-      ∷ (codes "--operand", argument.Setting setting.Operand)
-      ∷ (codes "--room", argument.Setting setting.Room) ∷ [])
+    ((codes "--json", argument.Json)
+    ∷ (codes "--budget", argument.Setting setting.Budget)
+    ∷ (codes "--heap", argument.Setting setting.Heap)
+    ∷ (codes "--call", argument.Setting setting.Call)
+    ∷ (codes "--operand", argument.Setting setting.Operand)
+    ∷ (codes "--room", argument.Setting setting.Room) ∷ [])
 
 -- an option by its name, else a word
 abbrev pub argumentIn : List ℕ → Option Argument

@@ -27,21 +27,21 @@ verdictKey (Paused p) = []
 abbrev pub reportJson : Report → List ℕ
 reportJson r =
     texts
-      (codes "{\"bytes\":\"" ∷ hexOf (vec-items (r .bytes))
-      ∷ codes "\",\"globals\":[" ∷ listed (vec-items (r .globals))
-      ∷ codes "],\"ok\":true,\"steps\":" ∷ decimal (r .steps)
-      ∷ codes ",\"stop\":\"" ∷ stopName (r .stop)
-      ∷ codes "\",\"taken\":" ∷ decimal (r .taken) ∷ verdictKey (r .stop) ∷ codes "}\n" ∷ [])
+    (codes "{\"bytes\":\"" ∷ hexOf (vec-items (r .bytes))
+    ∷ codes "\",\"globals\":[" ∷ listed (vec-items (r .globals))
+    ∷ codes "],\"ok\":true,\"steps\":" ∷ decimal (r .steps)
+    ∷ codes ",\"stop\":\"" ∷ stopName (r .stop)
+    ∷ codes "\",\"taken\":" ∷ decimal (r .taken) ∷ verdictKey (r .stop) ∷ codes "}\n" ∷ [])
 
 abbrev pub jsonOf : Answer → List ℕ
 jsonOf (Accepted s) =
     texts
-      (codes "{\"codesize\":" ∷ decimal (s .«code_size»)
-      ∷ codes ",\"globals\":" ∷ decimal (s .globals)
-      ∷ codes ",\"mainpc\":" ∷ decimal (s .main) ∷ codes ",\"ok\":true}\n" ∷ [])
+    (codes "{\"codesize\":" ∷ decimal (s .«code_size»)
+    ∷ codes ",\"globals\":" ∷ decimal (s .globals)
+    ∷ codes ",\"mainpc\":" ∷ decimal (s .main) ∷ codes ",\"ok\":true}\n" ∷ [])
 jsonOf (FileRefused f) =
     texts
-      (codes "{\"at\":" ∷ decimal (f .offset)
-      ∷ codes ",\"number\":" ∷ decimal (numberOfRefusal (f .refusal)) ∷ codes ",\"ok\":false}\n" ∷ [])
+    (codes "{\"at\":" ∷ decimal (f .offset)
+    ∷ codes ",\"number\":" ∷ decimal (numberOfRefusal (f .refusal)) ∷ codes ",\"ok\":false}\n" ∷ [])
 jsonOf (StartRefused r) = texts (codes "{\"number\":" ∷ decimal (numberOfRefusal r) ∷ codes ",\"ok\":false}\n" ∷ [])
 jsonOf (Ran r) = reportJson r

@@ -22,16 +22,16 @@ use Rattle.commands.specs.Words.{eachBehind}
 abbrev pub summaryLine : Summary → List ℕ
 summaryLine s =
     texts
-      (codes "code size " ∷ decimal (s .«code_size»)
-      ∷ codes ", globals " ∷ decimal (s .globals)
-      ∷ codes ", main address " ∷ decimal (s .main) ∷ codes "\n" ∷ [])
+    (codes "code size " ∷ decimal (s .«code_size»)
+    ∷ codes ", globals " ∷ decimal (s .globals)
+    ∷ codes ", main address " ∷ decimal (s .main) ∷ codes "\n" ∷ [])
 
 -- the code offset stands behind the path
 abbrev pub faultLine : List ℕ → ObjectFault → List ℕ
 faultLine path f =
     texts
-      (path ∷ codes ":" ∷ decimal (f .offset)
-      ∷ codes ": refusal " ∷ decimal (numberOfRefusal (f .refusal)) ∷ codes ": " ∷ wordsFor (f .refusal) ∷ codes "\n" ∷ [])
+    (path ∷ codes ":" ∷ decimal (f .offset)
+    ∷ codes ": refusal " ∷ decimal (numberOfRefusal (f .refusal)) ∷ codes ": " ∷ wordsFor (f .refusal) ∷ codes "\n" ∷ [])
 
 abbrev pub refusalLine : List ℕ → Refusal → List ℕ
 refusalLine path r =
@@ -49,11 +49,11 @@ globalsText (w ∷ ws) = eachBehind (codes " ") (w ∷ ws)
 abbrev pub reportLines : Report → List ℕ
 reportLines r =
     texts
-      (stopLine (r .stop)
-      ∷ codes "steps: " ∷ decimal (r .steps)
-      ∷ codes "\nwords taken: " ∷ decimal (r .taken)
-      ∷ codes "\nbytes written: " ∷ decimal (length (vec-items (r .bytes)))
-      ∷ codes "\nglobals:" ∷ globalsText (vec-items (r .globals)) ∷ codes "\n" ∷ [])
+    (stopLine (r .stop)
+    ∷ codes "steps: " ∷ decimal (r .steps)
+    ∷ codes "\nwords taken: " ∷ decimal (r .taken)
+    ∷ codes "\nbytes written: " ∷ decimal (length (vec-items (r .bytes)))
+    ∷ codes "\nglobals:" ∷ globalsText (vec-items (r .globals)) ∷ codes "\n" ∷ [])
 
 -- bytes that do not end a line have a line feed added
 abbrev pub lineEnd : List ℕ → List ℕ

@@ -159,7 +159,12 @@ impl Reading {
     fn finish(self, heap: Global, command: Command, path: &str) -> Result<Request, Failure>
         ensures { λ r. ⌜ UnderstoodAs askedOf (finished command (now (path .entry)) (readingOf self)) r ⌝ }
     {
-        let Reading { words, options, json, awaited } = self;
+        let Reading {
+            words,
+            options,
+            json,
+            awaited,
+        } = self;
         if awaited.is_some() {
             return Err(Failure::Missing);
         }
@@ -167,13 +172,23 @@ impl Reading {
         match command {
             Command::Check => Ok(Request::Check { path, json }),
             Command::List => Ok(Request::List { path }),
-            Command::Run => Ok(Request::Run { path, words, options, json }),
+            Command::Run => Ok(Request::Run {
+                path,
+                words,
+                options,
+                json,
+            }),
         }
     }
 }
 
 // read_behind reads the arguments behind a command and the path of a file.
-fn read_behind(heap: Global, command: Command, path: &str, texts: &[&str]) -> Result<Request, Failure>
+fn read_behind(
+    heap: Global,
+    command: Command,
+    path: &str,
+    texts: &[&str],
+) -> Result<Request, Failure>
     ensures { λ r. ⌜ UnderstoodAs askedOf (understoodBehind command (now (path .entry)) (textsOf (now (texts .entry)))) r ⌝ }
 {
     let mut reading = Reading {

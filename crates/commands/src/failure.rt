@@ -46,7 +46,10 @@ pub impl fmt::Display for Failure as FailureDisplay {
     fn fmt<W: fmt::Write>(&self, f: &mut fmt::Formatter<W>) -> fmt::Result {
         match self {
             Failure::Unreadable(path) => write!(f, "jelpuma: cannot read {path}\n"),
-            Failure::Unclear(argument) => write!(f, "jelpuma: cannot understand {argument}\n{USAGE}"),
+            Failure::Unclear(argument) => write!(
+                f,
+                "jelpuma: cannot understand {argument}\n{USAGE}"
+            ),
             Failure::NotText => write!(f, "jelpuma: an argument is no UTF-8 text\n{USAGE}"),
             Failure::Missing => write!(f, "jelpuma: an argument is missing\n{USAGE}"),
             Failure::NoMemory => write!(f, "jelpuma: not enough memory\n"),

@@ -59,12 +59,18 @@ pub(crate) fn json_of(heap: Global, answer: &Answer) -> Result<String, AllocErro
             let size = summary.code_size;
             let globals = summary.globals;
             let main = summary.main;
-            format!(heap, "{{\"codesize\":{size},\"globals\":{globals},\"mainpc\":{main},\"ok\":true}}\n")
+            format!(
+                heap,
+                "{{\"codesize\":{size},\"globals\":{globals},\"mainpc\":{main},\"ok\":true}}\n"
+            )
         }
         Answer::FileRefused(fault) => {
             let offset = fault.offset;
             let number = fault.refusal.number();
-            format!(heap, "{{\"at\":{offset},\"number\":{number},\"ok\":false}}\n")
+            format!(
+                heap,
+                "{{\"at\":{offset},\"number\":{number},\"ok\":false}}\n"
+            )
         }
         Answer::StartRefused(refusal) => {
             let number = refusal.number();

@@ -21,4 +21,3 @@ pub mod reply;
 mod report;
 pub mod request;
 mod words;
-

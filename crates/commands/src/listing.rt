@@ -41,7 +41,10 @@ fn operands_of(heap: Global, at: usize, instruction: Instruction) -> Result<Stri
     ensures { λ r. ⌜ made r (λ text. string-bytes text ≡ operandsOf at instruction) ⌝ }
 {
     match instruction {
-        Instruction::Load(n) | Instruction::Store(n) | Instruction::Trap(n) => format!(heap, " {n}"),
+        Instruction::Load(n) | Instruction::Store(n) | Instruction::Trap(n) => format!(
+            heap,
+            " {n}"
+        ),
         Instruction::GetStatic(n) | Instruction::PutStatic(n) => format!(heap, " {n}"),
         Instruction::Const(word) => format!(heap, " {word}"),
         Instruction::Increment(n, by) => format!(heap, " {n} {by}"),

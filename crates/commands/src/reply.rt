@@ -26,9 +26,20 @@ pub fn reply_to(heap: Global, path: &str, json: bool, answer: &Answer) -> Result
         return Ok(Reply::Answered(json_of(heap, answer)?.into_bytes()));
     }
     match answer {
-        Answer::Accepted(summary) => Ok(Reply::Answered(summary_line(heap, *summary)?.into_bytes())),
-        Answer::FileRefused(fault) => Ok(Reply::Refused(fault_line(heap, path, *fault)?.into_bytes())),
-        Answer::StartRefused(refusal) => Ok(Reply::Refused(refusal_line(heap, path, *refusal)?.into_bytes())),
+        Answer::Accepted(summary) => Ok(Reply::Answered(summary_line(
+            heap,
+            *summary,
+        )?.into_bytes())),
+        Answer::FileRefused(fault) => Ok(Reply::Refused(fault_line(
+            heap,
+            path,
+            *fault,
+        )?.into_bytes())),
+        Answer::StartRefused(refusal) => Ok(Reply::Refused(refusal_line(
+            heap,
+            path,
+            *refusal,
+        )?.into_bytes())),
         Answer::Ran(report) => Ok(Reply::Answered(report_output(heap, report)?)),
     }
 }

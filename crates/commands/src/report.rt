@@ -10,8 +10,8 @@ ghost use Rattle.std.specs.Of.String.{string-bytes};
 ghost use Rattle.std.specs.Of.Vec.{vec-items};
 ghost use Rattle.std.specs.Vec.{made};
 ghost use mathlib.Core.Path.{_≡_};
-use outcomes::Refusal;
 use object::checked::ObjectFault;
+use outcomes::Refusal;
 use std::alloc::AllocError;
 use std::alloc::Global;
 
@@ -53,7 +53,10 @@ fn report_lines(heap: Global, report: &Report) -> Result<String, AllocError>
     let taken = report.taken;
     let written = report.bytes.len();
     let globals = globals_text(heap, &report.globals)?;
-    format!(heap, "{stop}steps: {steps}\nwords taken: {taken}\nbytes written: {written}\nglobals:{globals}\n")
+    format!(
+        heap,
+        "{stop}steps: {steps}\nwords taken: {taken}\nbytes written: {written}\nglobals:{globals}\n"
+    )
 }
 
 // line_end is a line feed where the bytes do not end a line.
@@ -82,8 +85,15 @@ pub(crate) fn report_output(heap: Global, report: &Report) -> Result<Vec<u8>, Al
 pub(crate) fn summary_line(heap: Global, summary: Summary) -> Result<String, AllocError>
     ensures { λ r. ⌜ made r (λ text. string-bytes text ≡ summaryLine summary) ⌝ }
 {
-    let Summary { code_size, globals, main } = summary;
-    format!(heap, "code size {code_size}, globals {globals}, main address {main}\n")
+    let Summary {
+        code_size,
+        globals,
+        main,
+    } = summary;
+    format!(
+        heap,
+        "code size {code_size}, globals {globals}, main address {main}\n"
+    )
 }
 
 // fault_line tells why a file is refused, and where.

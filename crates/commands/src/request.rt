@@ -2,9 +2,19 @@
 #[derive(Drop)]
 pub enum Request {
     Sample,
-    Check { path: String, json: bool },
-    List { path: String },
-    Run { path: String, words: Vec<i32>, options: Options, json: bool },
+    Check {
+        path: String,
+        json: bool,
+    },
+    List {
+        path: String,
+    },
+    Run {
+        path: String,
+        words: Vec<i32>,
+        options: Options,
+        json: bool,
+    },
 }
 
 // Options is the numbers that a run can be given.

@@ -56,7 +56,7 @@ fn requested(heap: Global, arguments: &Vec<String>) -> Result<Request, Failure> 
 fn reply(rt: &LibcRuntime) -> Result<Reply, Failure> {
     let heap = rt.alloc();
     match requested(heap, &arguments(rt)?)? {
-        Request::Sample => run_object(heap, "the sample", &SAMPLE, &[], Options::DEFAULTS, false),
+        Request::Sample => run_object(heap, "the sample", SAMPLE, &[], Options::DEFAULTS, false),
         Request::Check { path, json } => {
             let bytes = read_file(rt, path.as_str())?;
             check_object(heap, path.as_str(), &bytes, json)
@@ -65,7 +65,12 @@ fn reply(rt: &LibcRuntime) -> Result<Reply, Failure> {
             let bytes = read_file(rt, path.as_str())?;
             list_object(heap, path.as_str(), &bytes)
         }
-        Request::Run { path, words, options, json } => {
+        Request::Run {
+            path,
+            words,
+            options,
+            json,
+        } => {
             let bytes = read_file(rt, path.as_str())?;
             run_object(heap, path.as_str(), &bytes, &words, options, json)
         }

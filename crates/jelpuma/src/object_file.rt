@@ -11,11 +11,13 @@ use commands::request::Options;
 use console::ConsoleOfSlices;
 use console::SliceConsole;
 use machine::advance::advance;
+use machine::machine::Machine;
 use machine::machine::Progress;
 use machine::start::start;
 use object::checked::Checked;
 use object::inspect::inspect;
 use outcomes::Refusal;
+ghost use Rattle.machine.specs.Machines.{Ready};
 ghost use Rattle.object.specs.Inspection.{WellFormed, objectOf};
 use std::alloc::Global;
 
@@ -32,7 +34,12 @@ fn summary_of(checked: &Checked<'_>) -> Summary {
 }
 
 // check_object tells whether bytes are an object file.
-pub(crate) fn check_object(heap: Global, path: &str, bytes: &[u8], json: bool) -> Result<Reply, Failure> {
+pub(crate) fn check_object(
+    heap: Global,
+    path: &str,
+    bytes: &[u8],
+    json: bool,
+) -> Result<Reply, Failure> {
     let answer = match inspect(bytes) {
         Ok(checked) => Answer::Accepted(summary_of(&checked)),
         Err(fault) => Answer::FileRefused(fault),
@@ -60,9 +67,9 @@ struct Ran {
     written: usize,
 }
 
-// run_in starts a machine in four stores and makes one run of it.
-fn run_in(
-    checked: Checked<'_>,
+// run makes one run of a machine.
+fn run(
+    machine: Machine<'_>,
     words: &[i32],
     budget: u32,
     data: &mut [i32],
@@ -71,14 +78,29 @@ fn run_in(
     operand: &mut [i32],
     buffer: &mut [u8],
 ) -> Result<Ran, Refusal>
-    requires { ⌜ WellFormed (objectOf checked) ⌝ }
+    requires { ⌜ Ready machine ⌝ }
 {
-    let machine = start(checked, data, heap, call, operand)?;
     let mut console = SliceConsole::new(words, buffer);
-    let (stop, steps) = match advance(machine, budget as u64, data, heap, call, operand, &mut console) {
+    let progress = advance(
+        machine,
+        budget as u64,
+        data,
+        heap,
+        call,
+        operand,
+        &mut console,
+    );
+    let (stop, steps) = match progress {
         Progress::Ended { verdict, steps } => (Stop::Ended(verdict), steps),
-        Progress::Paused { machine: _, pause, steps } => (Stop::Paused(pause), steps),
-        Progress::Refused { refusal, machine: _ } => return Err(refusal),
+        Progress::Paused {
+            machine: _,
+            pause,
+            steps,
+        } => (Stop::Paused(pause), steps),
+        Progress::Refused {
+            refusal,
+            machine: _,
+        } => return Err(refusal),
     };
     Ok(Ran {
         stop,
@@ -93,6 +115,49 @@ fn store(heap: Global, length: u32) -> Result<Vec<i32>, Failure> {
     Ok(vec![in heap; 0; length.min(MOST_WORDS) as usize]?)
 }
 
+// run_checked makes one run of an accepted object. The stores are tested before memory is asked for the bytes to be written.
+fn run_checked(
+    heap: Global,
+    checked: Checked<'_>,
+    words: &[i32],
+    options: Options,
+) -> Result<Answer, Failure>
+    requires { ⌜ WellFormed (objectOf checked) ⌝ }
+{
+    let globals = checked.globals();
+    let mut data = vec![in heap; 0; globals]?;
+    let mut arrays = store(heap, options.heap)?;
+    let mut calls = store(heap, options.call)?;
+    let mut operands = store(heap, options.operand)?;
+    let machine = match start(checked, &mut data, &mut arrays, &mut calls, &mut operands) {
+        Ok(machine) => machine,
+        Err(refusal) => return Ok(Answer::StartRefused(refusal)),
+    };
+    let mut buffer = vec![in heap; 0u8; options.room as usize]?;
+    match run(
+        machine,
+        words,
+        options.budget,
+        &mut data,
+        &mut arrays,
+        &mut calls,
+        &mut operands,
+        &mut buffer,
+    ) {
+        Ok(ran) => {
+            buffer.truncate(ran.written);
+            Ok(Answer::Ran(Report {
+                stop: ran.stop,
+                steps: ran.steps,
+                taken: ran.taken,
+                bytes: buffer,
+                globals: data,
+            }))
+        }
+        Err(refusal) => Ok(Answer::StartRefused(refusal)),
+    }
+}
+
 // run_object makes one run of an object file.
 pub(crate) fn run_object(
     heap: Global,
@@ -102,28 +167,9 @@ pub(crate) fn run_object(
     options: Options,
     json: bool,
 ) -> Result<Reply, Failure> {
-    let checked = match inspect(bytes) {
-        Ok(checked) => checked,
-        Err(fault) => return Ok(reply_to(heap, path, json, &Answer::FileRefused(fault))?),
-    };
-    let globals = checked.globals();
-    let mut data = vec![in heap; 0; globals]?;
-    let mut array_store = store(heap, options.heap)?;
-    let mut call_store = store(heap, options.call)?;
-    let mut operand_store = store(heap, options.operand)?;
-    let mut buffer = vec![in heap; 0u8; options.room as usize]?;
-    let answer = match run_in(checked, words, options.budget, &mut data, &mut array_store, &mut call_store, &mut operand_store, &mut buffer) {
-        Ok(ran) => {
-            buffer.truncate(ran.written);
-            Answer::Ran(Report {
-                stop: ran.stop,
-                steps: ran.steps,
-                taken: ran.taken,
-                bytes: buffer,
-                globals: data,
-            })
-        }
-        Err(refusal) => Answer::StartRefused(refusal),
+    let answer = match inspect(bytes) {
+        Ok(checked) => run_checked(heap, checked, words, options)?,
+        Err(fault) => Answer::FileRefused(fault),
     };
     Ok(reply_to(heap, path, json, &answer)?)
 }

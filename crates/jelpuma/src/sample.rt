@@ -1,6 +1,4 @@
-// SAMPLE is an object file that counts down from 3: header, then code.
-pub(crate) const SAMPLE: [u8; 42] = [
-    b'M', b'J', 0, 0, 0, 28, 0, 0, 0, 0, 0, 0, 0, 0, //
-    51, 0, 1, 18, 7, 2, 15, 46, 0, 12, 2, 15, 54, 31, 0, 255, //
-    42, 255, 245, 22, 0, 0, 0, 10, 15, 56, 52, 50,
-];
+// SAMPLE is an object file that counts down from 3: its header, and two lines of code.
+pub(crate) const SAMPLE: &[u8; 42] = b"MJ\x00\x00\x00\x1c\x00\x00\x00\x00\x00\x00\x00\x00\
+    \x33\x00\x01\x12\x07\x02\x0f\x2e\x00\x0c\x02\x0f\x36\x1f\x00\xff\
+    \x2a\xff\xf5\x16\x00\x00\x00\x0a\x0f\x38\x34\x32";
