@@ -7,7 +7,8 @@ use machine::advance::advance;
 use machine::machine::Progress;
 use machine::start::start;
 use object::inspect::inspect;
-ghost use Rattle.foreign.specs.Reports.{stepsOf, stopOf, verdictOf};
+ghost use Rattle.foreign.specs.Reports.{Answered, stepsOf, stopOf, verdictOf};
+ghost use Rattle.machine.specs.Machines.{stores};
 ghost use mathlib.Core.Path.{_≡_};
 
 // Summary is what a run came to, in numbers.
@@ -61,7 +62,10 @@ pub extern "C" fn jelpuma_run_object(
     out: &mut [u8],
     budget: u64,
     report: &mut [u64],
-) -> u32 {
+) -> u32
+    ensures { λ r. ⌜ Answered r (now (object .entry)) (stores (now («data» .entry)) (now (heap .entry)) (now (call .entry)) (now (operand .entry)))
+        (stores (now («data» .exit)) (now (heap .exit)) (now (call .exit)) (now (operand .exit))) (now (report .exit)) ⌝ }
+{
     if report.len() < 5 {
         return 255;
     }
@@ -84,7 +88,7 @@ pub extern "C" fn jelpuma_run_object(
     report[0] = answer.stop;
     report[1] = answer.verdict;
     report[2] = answer.steps;
-    report[3] = console.taken() as u64;
+    report[3] = words.len().saturating_sub(console.words_waiting()) as u64;
     report[4] = console.written_bytes().len() as u64;
     0
 }

@@ -1,2 +1,4 @@
+pub mod Composing
+pub mod Counting
 pub mod Stepping
 pub mod Turning

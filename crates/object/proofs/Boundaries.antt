@@ -78,13 +78,26 @@ rises code (suc j) n a b lt p q =
     let x = extended code j b q in
     ⊎-elim (rise-last code n j a b x p) (λ l. omega (arith, rises code j n a (x .from) l p (x .reached), x .ends)) (below-last n j (eqb n j) refl lt)
 
-by-count : (code : List ℕ) (at k : ℕ) (d : Decoded) (a : Boundary code at) (b : Boundary code k) (t : Bool) → ltb (a .count) (b .count) ≡ t → decoded (drop at code) ≡ Some d → at < k → at + d .size ≤ k
-by-count code at k d a b true e r lt = climbs code (b .count) (a .count) at k d (ltb-true _ _ e) (a .reached) r (b .reached)
-by-count code at k d a b false e r lt =
+-- an instruction that begins before another boundary is readable
+read-by : (code : List ℕ) (k n a b : ℕ) → n < k → behind n code ≡ Some a → behind k code ≡ Some b → (d : Decoded) × (decoded (drop a code) ≡ Some d)
+read-by code zero n a b lt p q = absurd (omega arith)
+read-by code (suc j) n a b lt p q =
+    let x = extended code j b q in
+    ⊎-elim
+    (λ e. let same : a ≡ x .from = one-offset code n j a (x .from) e p (x .reached) in (x .what, ap (λ i. decoded (drop i code)) same ∙ x .reads))
+    (λ l. read-by code j n a (x .from) l p (x .reached))
+    (below-last n j (eqb n j) refl lt)
+
+earlier : (code : List ℕ) (at k : ℕ) (a : Boundary code at) (b : Boundary code k) (t : Bool) → ltb (a .count) (b .count) ≡ t → at < k → a .count < b .count
+earlier code at k a b true e lt = ltb-true _ _ e
+earlier code at k a b false e lt =
     absurd (⊎-elim
     (λ same. omega (arith, one-offset code (b .count) (a .count) k at same (b .reached) (a .reached)))
     (λ l. omega (arith, rises code (a .count) (b .count) k at l (b .reached) (a .reached)))
     (below-last (b .count) (a .count) (eqb (b .count) (a .count)) refl (omega (arith, ltb-false (a .count) (b .count) e))))
 
+pub readable-before : (code : List ℕ) (at k : ℕ) → Boundary code at → Boundary code k → at < k → (d : Decoded) × (decoded (drop at code) ≡ Some d)
+readable-before code at k a b lt = read-by code (b .count) (a .count) at k (earlier code at k a b (ltb (a .count) (b .count)) refl lt) (a .reached) (b .reached)
+
 pub no-boundary-inside : (code : List ℕ) (at k : ℕ) (d : Decoded) → Boundary code at → decoded (drop at code) ≡ Some d → Boundary code k → at < k → at + d .size ≤ k
-no-boundary-inside code at k d a r b lt = by-count code at k d a b (ltb (a .count) (b .count)) refl r lt
+no-boundary-inside code at k d a r b lt = climbs code (b .count) (a .count) at k d (earlier code at k a b (ltb (a .count) (b .count)) refl lt) (a .reached) r (b .reached)

@@ -1,5 +1,6 @@
 pub mod Boundaries
 pub mod Headers
 pub mod Marking
+pub mod OneAnswer
 pub mod Sizes
 pub mod Straying

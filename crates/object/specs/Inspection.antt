@@ -42,7 +42,16 @@ pub data RefusedFor (bytes : List ℕ) : ObjectFault → Type 0 where
   instruction : (o : Object) (at : ℕ) → Headed bytes o → Unreadable (o .code) at → RefusedFor bytes (record { refusal = UnfitInstruction; offset = at })
   target : (o : Object) (at : ℕ) → Headed bytes o → Boundary (o .code) (length (o .code)) → Lowest (UnfitTargetAt (o .code) (o .main)) (Some at) → RefusedFor bytes (record { refusal = UnfitTarget; offset = at })
 
--- the answer of an inspection of these bytes
+-- what an inspection of these bytes finds: the object that they are a file of, or a refusal
+abbrev pub FoundIn : List ℕ → Result Object ObjectFault → Type 0
+FoundIn bytes (Ok o) = (bytes ≡ fileOf o) × WellFormed o
+FoundIn bytes (Err f) = RefusedFor bytes f
+
+-- the answer of an inspection stands for what it finds
 abbrev pub InspectedAs : List ℕ → Result Checked ObjectFault → Type 0
-InspectedAs bytes (Ok c) = (bytes ≡ fileOf (objectOf c)) × WellFormed (objectOf c)
-InspectedAs bytes (Err f) = RefusedFor bytes f
+InspectedAs bytes (Ok c) = FoundIn bytes (Ok (objectOf c))
+InspectedAs bytes (Err f) = FoundIn bytes (Err f)
+
+-- no bytes have two answers
+abbrev pub InspectionHasOneAnswer : Type 0
+InspectionHasOneAnswer = (bytes : List ℕ) (r s : Result Object ObjectFault) → FoundIn bytes r → FoundIn bytes s → r ≡ s

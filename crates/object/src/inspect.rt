@@ -4,7 +4,7 @@ use crate::header::read_header;
 use crate::starts::mark_starts;
 use crate::targets::unfit_target;
 use outcomes::Refusal;
-ghost use Rattle.object.specs.Inspection.{InspectedAs, objectOf};
+ghost use Rattle.object.specs.Inspection.{InspectedAs, InspectionHasOneAnswer, objectOf};
 ghost use mathlib.Core.Path.{_≡_};
 
 // inspect accepts exactly the object files: a Checked stands for these bytes, any other file is refused.
@@ -55,3 +55,8 @@ impl<'a> Checked<'a> {
         self.main
     }
 }
+
+// inspection_has_one_answer states that no file has two answers.
+pub fn inspection_has_one_answer()
+    ensures { λ _. ⌜ InspectionHasOneAnswer ⌝ }
+{}

@@ -1,0 +1,12 @@
+pub mod Texts
+pub mod Names
+pub mod Words
+pub mod Json
+pub mod Report
+pub mod Replies
+pub mod Mnemonics
+pub mod Listing
+pub mod Failures
+pub mod Numbers
+pub mod Understood
+pub mod Arguments
