@@ -3,9 +3,10 @@
 // Does not make cases.
 //
 // src/main.rt: the files, and what is printed. src/fields.rt: the fields of a line. src/inspection.rt: one inspection.
-// src/case.rt: what an execution is given. src/outcome.rt: what came of it. src/execution.rt: the ways to execute a case.
+// src/case.rt: what an execution is given. src/execution.rt: the ways to execute it. src/outcome.rt: what it leaves.
+// src/consoles.rt: how a host feeds and drains a console between two runs.
 // data/inspections.txt: objects. data/starts.txt: stores whose lengths are at a bound. data/runs.txt: executions of every kind.
-// data/exchanges.txt: executions that take more words or write more bytes than a RingConsole holds.
+// data/exchanges.txt: executions that take more words or write more bytes than a RingConsole holds, and rooms at a bound.
 mod case;
 mod consoles;
 mod execution;

@@ -19,4 +19,5 @@ mod names;
 mod numbers;
 pub mod reply;
 mod report;
-pub mod request;mod words;
+pub mod request;
+mod words;

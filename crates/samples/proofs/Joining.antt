@@ -1,34 +1,20 @@
 -- Runs one behind the other: their steps, what they exchange, and why they stop.
 use mathlib.Core.Path.{_≡_, refl, sym, ap, subst, _∙_}
-use mathlib.Core.List.{List, [], _++_, append-nil, append-assoc}
-use Prim.Native.Nat.{ℕ, zero, suc, _+_, _<_, _≤_}
-use native.Mathlib.Nat.{add-zero, add-suc}
+use mathlib.Core.List.{List, _++_, append-assoc}
+use Prim.Native.Nat.{ℕ, _+_, _<_, _≤_}
 use native.Mathlib.Omega.{arith}
 use lib.ListN.{length-append}
-use Rattle.std.specs.declared.option.Option.{Option}
-use Rattle.std.specs.declared.option.Option.the-variants.{Some}
 use Rattle.outcomes.specs.declared.Pause.{Pause}
 use Rattle.outcomes.specs.declared.Pause.the-variants.{Budget, Input, Output}
 use Rattle.outcomes.specs.declared.Verdict.{Verdict}
 use Rattle.step.specs.declared.registers.Registers.{Registers}
-use Rattle.machine.specs.Runs.{View, Scene, scene, turn, onward, after, Exchanged, Led}
+use Rattle.machine.specs.Laws.{afterMore}
+use Rattle.machine.specs.Runs.{View, Scene, scene, turn, Exchanged, Led}
 use Rattle.machine.specs.Machines.{Stores, stateWith}
 use Rattle.machine.specs.Answers.{EndsWith, PausesAt}
+use Rattle.machine.proofs.Composing.{runs-compose}
 use Rattle.samples.specs.declared.execute.Stop.the-variants.{Ended, Paused}
 use Rattle.samples.specs.Executing.{Drove}
-
-nothing-exchanged : (v : View) → Exchanged v v
-nothing-exchanged v = record { words = []; bytes = []; taken = refl; put = sym (append-nil (v .written)); left = omega arith }
-
-pub led-none : (code : List ℕ) (s : Scene) → Led code 0 s s
-unfolding after
-led-none code s = record { steps = refl; exchanged = nothing-exchanged (s .console) }
-
--- n steps from where m steps led are m + n steps
-after-sum : (m n : ℕ) (code : List ℕ) (from mid : Scene) → after m code from ≡ Some mid → after (m + n) code from ≡ after n code mid
-unfolding after
-after-sum m zero code from mid e = ap (λ k. after k code from) (add-zero m) ∙ e
-after-sum m (suc n) code from mid e = ap (λ k. after k code from) (add-suc m n) ∙ ap (onward code) (after-sum m n code from mid e)
 
 exchanged-joined : (v u w : View) → Exchanged v u → Exchanged u w → Exchanged v w
 exchanged-joined v u w a b = record {
@@ -43,7 +29,7 @@ pub led-joined : (m n : ℕ) (code code′ : List ℕ) (from mid to : Scene) →
 led-joined m n code code′ from mid to e a b′ =
     let b : Led code n mid to = subst (λ (c : List ℕ). Led c n mid to) e b′ in
     record {
-      steps = after-sum m n code from mid (a .steps) ∙ b .steps;
+      steps = runs-compose m n code from ∙ ap (afterMore n code) (a .steps) ∙ b .steps;
       exchanged = exchanged-joined (from .console) (mid .console) (to .console) (a .exchanged) (b .exchanged);
     }
 

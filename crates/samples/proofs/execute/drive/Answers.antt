@@ -4,7 +4,8 @@ use native.Mathlib.Omega.{arith}
 use Prim.Native.Nat.{ℕ, _+_, _≤_}
 use lib.ListN.{length}
 use Rattle.machine.specs.Machines.{lengthsOf, stores}
-use Rattle.samples.proofs.Joining.{led-none, led-joined, ends-joined, pauses-joined}
+use Rattle.machine.proofs.Stepping.{led-none}
+use Rattle.samples.proofs.Joining.{led-joined, ends-joined, pauses-joined}
 use Rattle.samples.proofs.execute.drive.Needs as need
 
 pub loop-verdict-holds : need.loop-verdict-holds
