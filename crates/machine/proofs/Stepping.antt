@@ -61,7 +61,7 @@ turn-sound code s t k e = step-sound (step code (s .state)) (s .console) t (step
 pub nothing-exchanged : (v : View) → Exchanged v v
 nothing-exchanged v = record { words = []; bytes = []; taken = refl; put = sym (append-nil (v .written)); left = omega arith }
 
-in-turn : (v u w : View) → Exchanged v u → Exchanged u w → Exchanged v w
+pub in-turn : (v u w : View) → Exchanged v u → Exchanged u w → Exchanged v w
 in-turn v u w a b = record {
   words = a .words ++ b .words;
   bytes = a .bytes ++ b .bytes;

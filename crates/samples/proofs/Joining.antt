@@ -13,24 +13,16 @@ use Rattle.machine.specs.Runs.{View, Scene, scene, turn, Exchanged, Led}
 use Rattle.machine.specs.Machines.{Stores, stateWith}
 use Rattle.machine.specs.Answers.{EndsWith, PausesAt}
 use Rattle.machine.proofs.Composing.{runs-compose}
+use Rattle.machine.proofs.Stepping.{in-turn}
 use Rattle.samples.specs.declared.execute.Stop.the-variants.{Ended, Paused}
 use Rattle.samples.specs.Executing.{Drove}
-
-exchanged-joined : (v u w : View) → Exchanged v u → Exchanged u w → Exchanged v w
-exchanged-joined v u w a b = record {
-  words = a .words ++ b .words;
-  bytes = a .bytes ++ b .bytes;
-  taken = a .taken ∙ ap (λ l. a .words ++ l) (b .taken) ∙ sym (append-assoc (a .words) (b .words) (w .waiting));
-  put = b .put ∙ ap (λ l. l ++ b .bytes) (a .put) ∙ append-assoc (v .written) (a .bytes) (b .bytes);
-  left = simp length-append (omega (arith, a .left, b .left));
-}
 
 pub led-joined : (m n : ℕ) (code code′ : List ℕ) (from mid to : Scene) → code′ ≡ code → Led code m from mid → Led code′ n mid to → Led code (m + n) from to
 led-joined m n code code′ from mid to e a b′ =
     let b : Led code n mid to = subst (λ (c : List ℕ). Led c n mid to) e b′ in
     record {
       steps = runs-compose m n code from ∙ ap (afterMore n code) (a .steps) ∙ b .steps;
-      exchanged = exchanged-joined (from .console) (mid .console) (to .console) (a .exchanged) (b .exchanged);
+      exchanged = in-turn (from .console) (mid .console) (to .console) (a .exchanged) (b .exchanged);
     }
 
 -- a last run that ends with a verdict
