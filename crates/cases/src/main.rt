@@ -7,6 +7,8 @@
 // src/consoles.rt: how a host feeds and drains a console between two runs.
 // data/inspections.txt: objects. data/starts.txt: stores whose lengths are at a bound. data/runs.txt: executions of every kind.
 // data/exchanges.txt: executions that take more words or write more bytes than a RingConsole holds, and rooms at a bound.
+#![tactic(auto)]
+
 mod case;
 mod consoles;
 mod execution;

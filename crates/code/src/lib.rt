@@ -3,4 +3,6 @@
 // Does not say what the code does: the machine does that, and the crate fidelity joins the two.
 //
 // specs/Encoding.antt: instructions as bytes. specs/Patterns.antt: sizes, code and operand heights. specs/Objects.antt: the object, and refusals 9 to 12.
+#![tactic(auto)]
+
 pub mod laws;

@@ -8,6 +8,8 @@
 // json.rt: answers as JSON. report.rt: answers for a reader. names.rt: names of verdicts, pauses and refusals.
 // words.rt: lists of words as text. hex.rt: bytes as text. listing.rt: code as text. mnemonics.rt: the names of opcodes.
 // docs/command-line.md: the rules.
+#![tactic(auto)]
+
 pub mod answer;
 pub mod arguments;
 pub mod failure;

@@ -16,6 +16,8 @@
 // specs/Rings.antt: what a ring and a console over two rings hold, and what feed does.
 // specs/Inner.antt: what the private functions promise one another.
 // proofs/: the laws of a ring, and of loops that append or move items.
+#![tactic(auto)]
+
 mod ring;
 mod ring_console;
 mod slice_console;

@@ -3,3 +3,4 @@
 // Does not read text or write code.
 //
 // specs/Scopes.antt: what names stand for. specs/Typing.antt: types, and the core of each form. specs/Items.antt: the names of an item, its limits and refusals. specs/Resolving.antt: whole programs.
+#![tactic(auto)]

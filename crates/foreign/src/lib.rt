@@ -1,6 +1,8 @@
 // Owns the calls for programs in other languages: numbers and slices only.
 // Promises that a call tests whatever the layers below ask for, so that no caller can break a promise.
 // Does not allocate. bench/ calls it; hosts in C and Rust are to follow.
+#![tactic(auto)]
+
 ghost use Rattle.foreign.specs.Reports.{Answered, steps_of, stop_of, verdict_of};
 ghost use Rattle.machine.specs.Machines.{stores};
 ghost use Rattle.std.specs.Prelude.{◌≡◌};

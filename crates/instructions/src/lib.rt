@@ -1,6 +1,8 @@
 // Owns the machine's instructions: what they are called, and how they are written as bytes.
 // Promises that decode reads exactly the instruction set's table, which specs/Table.antt defines once.
 // Does not say what an instruction does: the crate step does that.
+#![tactic(auto)]
+
 ghost use Rattle.instructions.specs.Decode as spec;
 ghost use Rattle.std.specs.Prelude.{◌≡◌};
 

@@ -3,6 +3,8 @@
 // Does not continue a run, and does not read the standard input.
 //
 // main.rt: arguments in, a reply out. files.rt: object files. object.rt: what is done with one. sample.rt: the built-in sample.
+#![tactic(auto)]
+
 mod files;
 mod object_file;
 mod sample;

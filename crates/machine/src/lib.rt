@@ -3,6 +3,8 @@
 // Does not allocate: code and stores are lent. Does not translate or inspect.
 //
 // machine.rt: the machine and the answers. start.rt: how a machine begins. turn.rt: one step beside a console. advance.rt: runs. laws.rt: laws of runs and of new arrays.
+#![tactic(auto)]
+
 pub mod advance;
 pub mod laws;
 pub mod machine;

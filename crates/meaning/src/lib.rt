@@ -3,4 +3,6 @@
 // Does not know code, object files or machines.
 //
 // specs/World.antt: events, arrays and what a program touches. specs/Evaluation.antt: what each form does. specs/Trace.antt: the trace.
+#![tactic(auto)]
+
 pub mod laws;

@@ -4,6 +4,8 @@
 //
 // checked.rt: the answers. header.rt: the 14 bytes before the code. starts.rt: where instructions begin.
 // targets.rt: where jumps and calls lead. inspect.rt: the whole inspection. docs/object-file.md: the format.
+#![tactic(auto)]
+
 pub mod checked;
 mod header;
 pub mod inspect;

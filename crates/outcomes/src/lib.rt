@@ -3,6 +3,8 @@
 // Does not say when a case is given: the layers do that.
 //
 // specs/Numbers.antt: the numbers and stages. docs/refusals.md and docs/machine.md: what each case means.
+#![tactic(auto)]
+
 ghost use Rattle.std.specs.Prelude.{◌≡◌};
 ghost use Rattle.outcomes.specs.Laws.{EachNumberIsOneCase};
 ghost use Rattle.outcomes.specs.Numbers.{number_of_pause, number_of_refusal, number_of_stage, number_of_verdict, stage_of};

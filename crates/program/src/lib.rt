@@ -4,6 +4,8 @@
 //
 // specs/Core.antt: values, conditions, actions, methods and programs. specs/Legal.antt: legal programs. specs/Flat.antt: the flat list of a program.
 // operation.rt: the elements of a flat list. laws.rt: laws of the definitions.
+#![tactic(auto)]
+
 pub mod laws;
 pub mod operation;
 

@@ -8,6 +8,8 @@
 // data/inspections.txt: objects. data/starts.txt: stores whose lengths are at a bound. data/runs.txt: executions of every kind.
 // data/exchanges.txt: executions that take more words or write more bytes than a RingConsole holds, and rooms at a bound.
 // data/rules.txt: the tests of executions in docs/DECISIONS.md, and hand-made code at the edges of the rules of docs/machine.md.
+#![tactic(auto)]
+
 mod case;
 mod consoles;
 mod execution;

@@ -3,6 +3,8 @@
 // Does not say what names mean: the crate context does that.
 //
 // symbol.rt: keywords and operators. token.rt: tokens as parts of a text. laws.rt: laws of the definitions.
+#![tactic(auto)]
+
 pub mod laws;
 pub mod symbol;
 pub mod token;

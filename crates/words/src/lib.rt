@@ -4,6 +4,8 @@
 //
 // arithmetic.rt: operators and relations. bytes.rt: the bytes of a word.
 // printing.rt: kinds of words, and digits. text.rt: what a print writes. laws.rt: laws of the definitions.
+#![tactic(auto)]
+
 pub mod arithmetic;
 pub mod bytes;
 pub mod laws;
