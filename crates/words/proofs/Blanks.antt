@@ -1,9 +1,9 @@
 -- A sign before digits, and blanks before a text, at the end of a buffer.
-use Rattle.std.proofs.Common.{◌≡◌, ℕ, suc, ◌+◌, ◌-◌, ◌<◌, ◌≤◌, min, true, List, [], ◌∷◌, ◌++◌, length, take, drop, set, replicate, ℤ, pos, negsuc, nat_abs, decimal, sym, refl, ap, ◌∙◌, arith, length-append}
+use Rattle.std.proofs.Common.{◌≡◌, ℕ, suc, ◌+◌, ◌-◌, ◌<◌, ◌≤◌, min, true, List, [], ◌∷◌, ◌++◌, length, take, drop, set, replicate, ℤ, pos, negsuc, nat_abs, decimal, refl, ap, ◌∙◌, arith, length-append}
 use lib.ListN.{length-replicate}
 use lib.Signed.{lt_z}
 use Rattle.std.specs.Fmt.{signed_decimal}
-use Rattle.std.proofs.lemmas.List.{take_at, drop_at, take-take, take-append-le, drop-append-le, set_split, length-take-le, take-replicate, drop-replicate, drop_all}
+use Rattle.std.proofs.lemmas.List.{drop_at, take-take, take-append-le, drop-append-le, set_split, length-take-le, take-replicate, drop-replicate, drop_all}
 use Rattle.std.proofs.lemmas.Bool.Decides.{nat_tests}
 
 pub signed_negative : (z : ℤ) → lt_z z (pos 0) ≡ true → signed_decimal z ≡ 45 ∷ decimal (nat_abs z)

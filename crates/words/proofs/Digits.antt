@@ -1,7 +1,7 @@
 -- Digits written from the end of a buffer of 255 bytes.
-use Rattle.std.proofs.Common.{◌≡◌, ℕ, suc, ◌+◌, ◌-◌, ◌/◌, ◌%◌, ◌^◌, ◌<◌, ◌≤◌, List, [], ◌∷◌, ◌++◌, length, take, drop, set, decimal, sym, refl, ap, ◌∙◌, append_assoc, append-nil, arith, length-append, length-drop}
+use Rattle.std.proofs.Common.{◌≡◌, ℕ, suc, ◌+◌, ◌-◌, ◌/◌, ◌%◌, ◌^◌, ◌<◌, ◌≤◌, List, [], ◌∷◌, ◌++◌, length, take, drop, set, decimal, sym, ap, ◌∙◌, append_assoc, arith, length-append, length-drop}
 use Rattle.std.proofs.lemmas.Fmt.{length-decimal-le, decimal_nonempty, decimal_step, decimal_digit}
-use Rattle.std.proofs.lemmas.List.{take-set, take-take, drop-set, set_split}
+use Rattle.std.proofs.lemmas.List.{take-take, drop-set, set_split}
 
 pub ten_at_most : (n : ℕ) → n < 2 ^ 32 → length (decimal n) ≤ 10
 ten_at_most n h = length-decimal-le 10 n (omega arith) (omega arith) (omega arith)

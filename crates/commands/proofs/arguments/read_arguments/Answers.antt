@@ -20,4 +20,4 @@ returns c =
     let rest = take (length xs - 1) (drop 1 xs) in
     let e = known xs rest c.in-Some.command (take_rest xs 1) (omega (arith, ltb-true, ltb-false)) c.in-Some.ensures in
     let f = with_path rest c.in-Some.command (omega (arith, ltb-true, ltb-false)) in
-    rw (e ∙ f) c.read-behind.ensures
+    rw (e ∙ f) c.read_behind.ensures

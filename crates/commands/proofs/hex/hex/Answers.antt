@@ -11,10 +11,10 @@ loop-byte-preserved c =
     let before = c.loop-byte.invariant in
     let high = c.digit.ensures.value in
     let high_one = c.push.ensures.ascii c.digit.ensures.ascii in
-    let pushed = c.in-ok-push.ensures.bytes in
+    let pushed = c.in_ok-push.ensures.bytes in
     let low = c.digit-in-loop-byte.ensures.value in
     let low-one = c.push-in-loop-byte.ensures.ascii c.digit-in-loop-byte.ensures.ascii in
-    let more = c.in-ok-push-2.ensures.bytes in
+    let more = c.in_ok-push-2.ensures.bytes in
     let written = ap hex_of (take_more bs i 0 c.loop-byte-test.true) ∙ hex_of_push (take i bs) (get_or bs i 0) in
     cc
 

@@ -19,7 +19,7 @@ loop-found-smaller c =
 pub loop-found-preserved : goal.loop-found-preserved
 loop-found-preserved c =
     let l = c.loop-found in
-    let line = c.in-ok-push-str.ensures.bytes ∙ ap (λ t. string_bytes l.text ++ t) (c.as-str.ensures.value ∙ c.in-ok-line.ensures) in
+    let line = c.in_ok-push_str.ensures.bytes ∙ ap (λ t. string_bytes l.text ++ t) (c.as_str.ensures.value ∙ c.in_ok-line.ensures) in
     left_more c.args.code.now (string_bytes l.text) _ l.at c.in-Some.found l.invariant (reads c) line
 
 pub returns : goal.returns

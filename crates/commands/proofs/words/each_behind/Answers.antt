@@ -10,10 +10,10 @@ loop-word-preserved c =
     let mark = c.args.mark.now in
     let i = c.loop-word.word-index in
     let before = c.loop-word.invariant in
-    let marked = c.in-ok-push-str.ensures.bytes in
-    let shown = c.in-ok-to-string.ensures.ok in
-    let read = c.as-str.ensures.value in
-    let more = c.in-ok-push-str-2.ensures.bytes in
+    let marked = c.in_ok-push_str.ensures.bytes in
+    let shown = c.in_ok-to_string.ensures.ok in
+    let read = c.as_str.ensures.value in
+    let more = c.in_ok-push_str-2.ensures.bytes in
     let written = ap (each_behind mark) (take_more ws i (pos 0) c.loop-word-test.true) ∙ each_behind_push mark (take i ws) (get_or ws i (pos 0)) in
     cc
 

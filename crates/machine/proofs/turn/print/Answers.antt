@@ -15,7 +15,7 @@ returns g c d h k p =
     let x = c.args.console.now in
     let s : State = printed_from c.args.next (state c.args.r.now d h k p) in
     let v : View = view (o.waiting x) (o.written x) (o.room x) in
-    let bytes = c.as-bytes-bytes.result.now in
-    let same : bytes ≡ printed_as c.args.kind c.args.value c.args.width = c.as-bytes-bytes.ensures ∙ simp to_z-of_z at c.printed-text.ensures in
+    let bytes = c.as_bytes-bytes.result.now in
+    let same : bytes ≡ printed_as c.args.kind c.args.value c.args.width = c.as_bytes-bytes.ensures ∙ simp to_z-of_z at c.printed-text.ensures in
     let t = c.in-Ok.ensures in
-    ap (λ (b : List ℕ). with_bytes b s v) (sym same) ∙ bytes_put bytes s _ _ _ _ _ _ _ t.room t.puts t.waiting (c.drop-printed.ensures d h k p)
+    ap (λ (b : List ℕ). with_bytes b s v) (sym same) ∙ bytes_put bytes s _ _ _ _ _ _ _ t.room t.puts t.waiting (c.drop_printed.ensures d h k p)

@@ -6,8 +6,8 @@ use Rattle.object.proofs.header.read_header.Goals as goal
 pub returns : goal.returns
 returns c =
     let bytes = c.args.bytes.now in
-    let size = c.number-at-size in
+    let size = c.number_at-size in
     let code : take (length bytes - 14) (drop 14 bytes) ≡ drop 14 bytes = take_rest bytes 14 in
     let long : length (take (length bytes - 14) (drop 14 bytes)) ≡ size.result = ap length code ∙ simp length-drop (omega arith) in
-    headed bytes (take (length bytes - 14) (drop 14 bytes)) size.result c.number-at-globals.result c.number-at-main.result c.type-inv.bytes (omega arith) (search rules) (search rules)
-    size.ensures c.number-at-globals.ensures c.number-at-main.ensures code long (omega arith) (omega arith) (omega arith) (omega arith)
+    headed bytes (take (length bytes - 14) (drop 14 bytes)) size.result c.number_at-globals.result c.number_at-main.result c.type_inv.bytes (omega arith) (search rules) (search rules)
+    size.ensures c.number_at-globals.ensures c.number_at-main.ensures code long (omega arith) (omega arith) (omega arith) (omega arith)

@@ -6,11 +6,11 @@ use Rattle.object.proofs.inspect.inspect.Goals as goal
 pub returns-in-default : goal.returns-in-default
 returns-in-default c = header c.in-default.ensures
 
-pub mark-starts-requires : goal.mark-starts-requires
-mark-starts-requires c = record { short = c.in-Some.ensures.limits.code_short; blank = λ k. all_blank 8192 k }
+pub mark_starts-requires : goal.mark_starts-requires
+mark_starts-requires c = record { short = c.in-Some.ensures.limits.code_short; blank = λ k. all_blank 8192 k }
 
 pub returns-in-Err : goal.returns-in-Err
 returns-in-Err c = instruction (object_of c.in-Some.checked) _ c.in-Some.ensures c.in-Err.ensures
 
-pub returns-in-Some-unfit-target : goal.returns-in-Some-unfit-target
-returns-in-Some-unfit-target c = target (object_of c.in-Some.checked) _ c.in-Some.ensures c.in-default-mark-starts.ensures.0 c.in-Some-unfit-target.ensures
+pub returns-in-Some-unfit_target : goal.returns-in-Some-unfit_target
+returns-in-Some-unfit_target c = target (object_of c.in-Some.checked) _ c.in-Some.ensures c.in-default-mark_starts.ensures.0 c.in-Some-unfit_target.ensures

@@ -6,7 +6,7 @@ use Rattle.object.proofs.targets.unfit_target.Goals as goal
 
 pub returns-then-starts-main : goal.returns-then-starts-main
 returns-then-starts-main c =
-    with_main c.args.code.now c.args.main c.first-stray-stray.result ((c.requires.marks c.args.main).0 c.if-starts-main.true) c.first-stray-stray.ensures
+    with_main c.args.code.now c.args.main c.first_stray-stray.result ((c.requires.marks c.args.main).0 c.if-starts-main.true) c.first_stray-stray.ensures
 
 pub returns-in-Some : goal.returns-in-Some
 returns-in-Some c =

@@ -13,9 +13,9 @@ use Rattle.step.proofs.arrays.array_load.Goals as goal
 abbrev load : Kind → ℤ → State → ℕ → ℕ → Step
 load kind next u w j = push (element_in kind j (word_at u.heap w)) u (go_to next)
 
-pub returns-in-err-at : goal.returns-in-err-at
-returns-in-err-at c =
-    let p = err_from_is_err_and c.from-residual.result c.from-residual.ensures.1 in
+pub returns-in_err-at : goal.returns-in_err-at
+returns-in_err-at c =
+    let p = err_from_is_err_and c.from_residual.result c.from_residual.ensures.1 in
     rw (p.1, p.2)
     (λ d k.
     let o = c.args.operand.now in
@@ -23,7 +23,7 @@ returns-in-err-at c =
     let s : State = state r d c.args.heap.now k o in
     let f : SFits w32 (get_or o (r.height - 2) (pos 0)) = search rules in
     let g : SFits w32 (get_or o (r.height - 1) (pos 0)) = search rules in
-    let found = found_at c.args.kind _ (get_or o (r.height - 2) (pos 0)) _ (get_or o (r.height - 1) (pos 0)) r.free c.args.heap.now (Err c.in-err-at.field-0.0) (to_z-of_z w32 _ f) (to_z-of_z w32 _ g) c.in-err-at.ensures.found in
+    let found = found_at c.args.kind _ (get_or o (r.height - 2) (pos 0)) _ (get_or o (r.height - 1) (pos 0)) r.free c.args.heap.now (Err c.in_err-at.field-0.0) (to_z-of_z w32 _ f) (to_z-of_z w32 _ g) c.in_err-at.ensures.found in
     (pops_two s (λ i a u. element c.args.kind a i u.registers.free u.heap (load c.args.kind (pos c.args.next) u)) (omega arith) ∙ found (load c.args.kind (pos c.args.next) (with_operand (r.height - 2) o s)), refl))
 
 pub returns : goal.returns
@@ -31,21 +31,21 @@ returns c d k =
     let o = c.args.operand.now in
     let r = c.args.r.now in
     let kind = c.args.kind in
-    let at = c.in-ok-at.at in
+    let at = c.in_ok-at.at in
     let s : State = state r d c.args.heap.now k o in
     let u : State = with_operand (r.height - 2) o s in
     let f : SFits w32 (get_or o (r.height - 2) (pos 0)) = search rules in
     let g : SFits w32 (get_or o (r.height - 1) (pos 0)) = search rules in
     let x : SFits w32 (get_or c.args.heap.now at.word (pos 0)) = search rules in
-    let found = found_at kind _ (get_or o (r.height - 2) (pos 0)) _ (get_or o (r.height - 1) (pos 0)) r.free c.args.heap.now (Ok at) (to_z-of_z w32 _ f) (to_z-of_z w32 _ g) c.in-ok-at.ensures.found in
-    let word : element_in kind at.index (get_or c.args.heap.now at.word (pos 0)) ≡ c.element-in.result = sym (simp to_z-of_z at c.element-in.ensures) in
+    let found = found_at kind _ (get_or o (r.height - 2) (pos 0)) _ (get_or o (r.height - 1) (pos 0)) r.free c.args.heap.now (Ok at) (to_z-of_z w32 _ f) (to_z-of_z w32 _ g) c.in_ok-at.ensures.found in
+    let word : element_in kind at.index (get_or c.args.heap.now at.word (pos 0)) ≡ c.element_in.result = sym (simp to_z-of_z at c.element_in.ensures) in
     let up : r.height - 2 + 1 ≡ r.height - 1 = omega arith in
     let e = to_z_pos w32 c.args.next (omega arith) in
-    let y : SFits w32 c.element-in.result = record { sfits = c.element-in.type-inv } in
+    let y : SFits w32 c.element_in.result = record { sfits = c.element_in.type_inv } in
     pops_two s (λ i a u. element kind a i u.registers.free u.heap (load kind (pos c.args.next) u)) (omega arith) ∙
     found (load kind (pos c.args.next) u) ∙
     pushes _ u (go_to (pos c.args.next)) (omega arith) ∙
     ap (λ (w : ℤ). go_to (pos c.args.next) (with_operand (r.height - 2 + 1) (set o (r.height - 2) w) u)) word ∙
-    ap (λ (n : ℕ). go_to (pos c.args.next) (with_operand n (set o (r.height - 2) c.element-in.result) u)) up ∙
-    ap (λ (w : ℤ). go_to (pos c.args.next) (with_operand (r.height - 1) (set o (r.height - 2) w) u)) (sym (to_z-of_z w32 c.element-in.result y)) ∙
-    ap (λ (z : ℤ). go_to z (with_operand (r.height - 1) (set o (r.height - 2) (to_z w32 (of_z w32 c.element-in.result))) u)) (sym e)
+    ap (λ (n : ℕ). go_to (pos c.args.next) (with_operand n (set o (r.height - 2) c.element_in.result) u)) up ∙
+    ap (λ (w : ℤ). go_to (pos c.args.next) (with_operand (r.height - 1) (set o (r.height - 2) w) u)) (sym (to_z-of_z w32 c.element_in.result y)) ∙
+    ap (λ (z : ℤ). go_to z (with_operand (r.height - 1) (set o (r.height - 2) (to_z w32 (of_z w32 c.element_in.result))) u)) (sym e)

@@ -23,11 +23,11 @@ returns-in-Jump c =
 pub returns-in-JumpIf : goal.returns-in-JumpIf
 returns-in-JumpIf c =
     let f : SFits w16 c.in-JumpIf.by = search rules in
-    let e = simp to_z-of_z at (c.jump-if.ensures c.args.data.now c.args.heap.now c.args.call.now) in
+    let e = simp to_z-of_z at (c.jump_if.ensures c.args.data.now c.args.heap.now c.args.call.now) in
     search (rules, e)
 
 pub returns-in-Call : goal.returns-in-Call
 returns-in-Call c =
     let f : SFits w16 c.in-Call.by = search rules in
-    let e = simp to_z-of_z at (c.call-method.ensures c.args.data.now c.args.heap.now c.args.operand.now) in
+    let e = simp to_z-of_z at (c.call_method.ensures c.args.data.now c.args.heap.now c.args.operand.now) in
     search (rules, e)

@@ -9,5 +9,5 @@ pub returns-else-b-eq0 : goal.returns-else-b-eq0
 returns-else-b-eq0 c =
     let f : SFits w32 c.args.a = c.ranges.a in
     let g : SFits w32 c.args.b = c.ranges.b in
-    let e : c.wrapping-div.result ≡ wrap (quot_z c.args.a c.args.b) = simp to_z-of_z at c.wrapping-div.ensures ∙ wraps_quotient c.args.a c.args.b f in
+    let e : c.wrapping_div.result ≡ wrap (quot_z c.args.a c.args.b) = simp to_z-of_z at c.wrapping_div.ensures ∙ wraps_quotient c.args.a c.args.b f in
     search (rules, e)

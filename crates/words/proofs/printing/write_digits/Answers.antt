@@ -1,4 +1,4 @@
-use Rattle.std.proofs.Common.{◌≡◌, ◌+◌, ◌-◌, ◌/◌, ◌%◌, ◌<◌, ◌≤◌, ◌++◌, length, take, drop, set, decimal, sym, refl, ap, ◌∙◌, append-nil, arith, length-set, rules}
+use Rattle.std.proofs.Common.{◌≡◌, ◌+◌, ◌-◌, ◌/◌, ◌%◌, ◌++◌, length, take, drop, set, decimal, sym, refl, ap, ◌∙◌, append-nil, arith, length-set}
 use Rattle.std.proofs.lemmas.List.{drop_all, take-set, take-take}
 use Rattle.std.proofs.lemmas.Fmt.{decimal_digit}
 use Rattle.words.proofs.Digits.{ten_at_most, some_digit, reaches, again, whole}
@@ -9,8 +9,8 @@ loop-rest-init c =
     let none = drop_all 255 c.args.out.now (omega arith) in
     (omega arith, omega arith, c.told-out, refl, ap (λ l. decimal c.args.n ++ l) none ∙ append-nil (decimal c.args.n))
 
-pub overflow-sub-at : goal.overflow-sub-at
-overflow-sub-at c =
+pub overflow_sub-at : goal.overflow_sub-at
+overflow_sub-at c =
     let l = c.loop-rest in
     omega (arith, reaches c.args.n l.rest l.at l.out (omega arith) l.invariant.0 l.invariant.2 l.invariant.4, some_digit l.rest l.invariant.1, ten_at_most c.args.n (omega arith))
 

@@ -1,4 +1,4 @@
-use Rattle.std.proofs.Common.{◌≡◌, ◌-◌, min, drop, sym, ap, ◌∙◌, arith, w32, SFits, rules}
+use Rattle.std.proofs.Common.{◌≡◌, drop, ap, ◌∙◌, w32, SFits}
 use Rattle.std.proofs.lemmas.Int.{to_z-of_z}
 use Rattle.words.specs.Printing.{printed_as, padded, shown, clamped}
 use Rattle.words.proofs.Blanks.{reads_padded}
@@ -9,7 +9,7 @@ unfolding printed_as
 returns c =
     let f : SFits w32 c.args.value = c.ranges.value in
     let g : SFits w32 c.args.width = c.ranges.width in
-    let s = c.write-shown-begin in
+    let s = c.write_shown-begin in
     let text = shown c.args.kind c.args.value in
     let w : c.clamped.result ≡ clamped c.args.width = simp to_z-of_z at c.clamped.ensures.value in
     let filled = simp to_z-of_z at s.ensures.text in

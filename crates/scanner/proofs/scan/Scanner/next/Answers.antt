@@ -5,5 +5,5 @@ use Rattle.scanner.proofs.scan.Scanner.next.Goals as goal
 pub returns-in-default : goal.returns-in-default
 returns-in-default c = no_token c.in-default.ensures
 
-pub returns-then-is-too-large : goal.returns-then-is-too-large
-returns-then-is-too-large c = large_found c.args.self.now.rest.now c.args.self.now.position c.in-Some.lexeme c.in-Some.ensures c.if-is-too-large.ensures
+pub returns-then-is_too_large : goal.returns-then-is_too_large
+returns-then-is_too_large c = large_found c.args.self.now.rest.now c.args.self.now.position c.in-Some.lexeme c.in-Some.ensures c.if-is_too_large.ensures
