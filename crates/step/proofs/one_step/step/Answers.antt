@@ -1,4 +1,4 @@
-use Rattle.std.proofs.Common.{◌≡◌, ◌+◌, pos, ◌+ℤ◌, nat_abs, Some, None, sym, refl, ap, ◌∙◌, subst, w32, SFits, rules}
+use Rattle.std.proofs.Common.{◌≡◌, ◌+◌, pos, nat_abs, Some, None, sym, refl, ap, ◌∙◌, subst, w32, SFits, rules}
 use Rattle.std.proofs.lemmas.Int.{to_z-of_z}
 use Rattle.step.specs.State.{State, state, Step}
 use Rattle.step.specs.Perform.{step, fetched, performed, perform}
