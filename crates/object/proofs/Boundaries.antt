@@ -1,10 +1,10 @@
 -- Boundaries of instructions follow one another: none lies inside an instruction.
-use Rattle.std.proofs.Common.{◌≡◌, ℕ, zero, suc, ◌+◌, ◌-◌, ◌<◌, ◌≤◌, Bool, true, false, eqb, ltb, ◌⊎◌, List, length, drop, Some, None, Option, sym, refl, ap, ◌∙◌, inl, inr, ⊎_elim, arith, length-drop}
+use Rattle.std.proofs.Common.{◌≡◌, ℕ, zero, suc, ◌+◌, ◌<◌, ◌≤◌, Bool, true, false, eqb, ltb, ◌⊎◌, List, drop, Some, None, Option, sym, refl, ap, ◌∙◌, inl, inr, ⊎_elim, arith}
 use Rattle.std.proofs.lemmas.Bool.{eqb-true, eqb-false, ltb-true, ltb-false}
 use Rattle.instructions.specs.declared.Decoded.{Decoded}
 use Rattle.instructions.specs.Decode.{decoded}
 use Rattle.object.specs.Code.{end_of, behind_next, behind, Boundary}
-use Rattle.object.proofs.Sizes.{Sized, decoded_size, nothing}
+use Rattle.object.proofs.Sizes.{decoded_size, nothing}
 
 pub boundary_first : (code : List ℕ) → Boundary code 0
 unfolding behind

@@ -1,7 +1,7 @@
 -- A file from its header's numbers.
-use Rattle.std.proofs.Common.{◌≡◌, ℕ, zero, suc, ◌+◌, ◌-◌, ◌*◌, ◌/◌, ◌%◌, ◌<◌, ◌≤◌, List, [], ◌∷◌, ◌++◌, length, get_or, take, drop, sym, refl, ap, ◌∙◌, arith, w8, Fits}
-use Rattle.std.proofs.lemmas.List.{drop_more, take-append-drop}
-use Rattle.object.specs.File.{Object, four_bytes, file_of, Limits}
+use Rattle.std.proofs.Common.{◌≡◌, ℕ, ◌+◌, ◌*◌, ◌/◌, ◌%◌, ◌<◌, ◌≤◌, List, [], ◌∷◌, ◌++◌, length, get_or, drop, sym, ap, ◌∙◌, arith, w8, Fits}
+use Rattle.std.proofs.lemmas.List.{drop_more}
+use Rattle.object.specs.File.{four_bytes}
 use Rattle.object.specs.Inspection.{Headed}
 use Rattle.object.specs.Numbers.{number_at}
 

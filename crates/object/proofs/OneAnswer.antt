@@ -1,12 +1,10 @@
 -- No file has two answers.
-use Rattle.std.proofs.Common.{◌≡◌, ℕ, zero, suc, ◌+◌, ◌-◌, ◌*◌, ◌/◌, ◌%◌, ◌<◌, ◌≤◌, Bool, true, false, eqb, ltb, ◌⊎◌, List, [], ◌∷◌, ◌++◌, length, get_or, drop, Some, None, Ok, Err, Result, sym, refl, ap, ◌∙◌, subst, inl, inr, ⊎_elim, arith}
-use Rattle.std.proofs.lemmas.Bool.{eqb-true, eqb-false, ltb-true, ltb-false}
+use Rattle.std.proofs.Common.{◌≡◌, ℕ, ◌+◌, ◌-◌, ◌*◌, ◌/◌, ◌%◌, ◌<◌, ◌≤◌, Bool, true, false, ltb, ◌⊎◌, List, length, drop, Some, Ok, Err, Result, sym, refl, ap, ◌∙◌, subst, inl, inr, ⊎_elim, arith}
+use Rattle.std.proofs.lemmas.Bool.{ltb-true, ltb-false}
 use Rattle.outcomes.specs.declared.Refusal.{Refusal}
-use Rattle.outcomes.specs.declared.Refusal.TheVariants.{UnfitHeader, UnfitInstruction, UnfitTarget}
-use Rattle.instructions.specs.declared.Decoded.{Decoded}
-use Rattle.instructions.specs.Decode.{decoded}
+use Rattle.outcomes.specs.declared.Refusal.TheVariants.{UnfitInstruction, UnfitTarget}
 use Rattle.object.specs.declared.checked.ObjectFault.{ObjectFault}
-use Rattle.object.specs.File.{Object, file_of, Limits}
+use Rattle.object.specs.File.{Object, file_of}
 use Rattle.object.specs.Numbers.{number_at}
 use Rattle.object.specs.Code.{Boundary, Unreadable}
 use Rattle.object.specs.Targets.{UnfitTargetAt, Lowest}

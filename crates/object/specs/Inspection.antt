@@ -1,6 +1,5 @@
 -- Which files are object files, and which refusal any other file gets, and where.
 use Rattle.std.specs.Prelude.{◌≡◌, ℕ, List, length, Some, None, Ok, Err, Option, Result}
-use Rattle.outcomes.specs.declared.Refusal.{Refusal}
 use Rattle.outcomes.specs.declared.Refusal.TheVariants.{UnfitHeader, UnfitInstruction, UnfitTarget}
 use Rattle.object.specs.declared.checked.Checked.{Checked}
 use Rattle.object.specs.declared.checked.ObjectFault.{ObjectFault}

@@ -1,5 +1,5 @@
 -- The inspection's marks: a flag for each offset that a code may have.
-use Rattle.std.specs.Prelude.{◌≡◌, ℕ, Bool, true, false, List, length, Ok, Err, Decides, Result, slice_index_or}
+use Rattle.std.specs.Prelude.{◌≡◌, ℕ, Bool, false, List, length, Ok, Err, Decides, Result, slice_index_or}
 use Rattle.object.specs.Code.{Boundary, Begins, Unreadable}
 
 abbrev pub unmarked : List Bool → ℕ → Type 0

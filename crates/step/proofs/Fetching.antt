@@ -1,5 +1,5 @@
 -- The instruction at pc, inside and outside the code.
-use Rattle.std.proofs.Common.{◌≡◌, ℕ, ◌+◌, ◌<◌, ◌≤◌, true, false, List, length, drop, ℤ, pos, negsuc, ◌+ℤ◌, nat_abs, IfSome, Some, None, Option, sym, refl, ap, ◌∙◌, arith}
+use Rattle.std.proofs.Common.{◌≡◌, ℕ, ◌+◌, ◌<◌, ◌≤◌, true, false, List, length, drop, ℤ, pos, negsuc, ◌+ℤ◌, nat_abs, IfSome, Some, None, Option, sym, refl, ap, arith}
 use lib.Signed.{lt_z}
 use Rattle.std.proofs.lemmas.List.{drop_all}
 use Rattle.std.proofs.lemmas.Int.{ints}

@@ -1,5 +1,5 @@
 -- A step from a sound state leads to a sound state.
-use Rattle.std.proofs.Common.{◌≡◌, ℕ, zero, suc, ◌+◌, ◌-◌, ◌<◌, ◌≤◌, Bool, true, false, cond, eqb, ltb, leb, List, [], ◌∷◌, ◌++◌, length, take, drop, set, replicate, ℤ, pos, negsuc, ◌+ℤ◌, Some, None, Option, sym, refl, ap, ◌∙◌, arith, length-append, length-drop, length-set, length-take}
+use Rattle.std.proofs.Common.{◌≡◌, ℕ, zero, suc, ◌+◌, ◌-◌, ◌<◌, ◌≤◌, Bool, true, false, cond, eqb, ltb, leb, List, ◌∷◌, length, set, replicate, ℤ, pos, negsuc, ◌+ℤ◌, Some, None, Option, refl, arith, length-append, length-drop, length-set, length-take}
 use lib.ListN.{length-replicate}
 use lib.Signed.{lt_z}
 use Rattle.std.proofs.lemmas.Bool.{ltb-true, leb-true}
@@ -12,10 +12,10 @@ use Rattle.words.specs.Printing.{printed_as}
 use Rattle.instructions.specs.declared.Decoded.{Decoded}
 use Rattle.instructions.specs.declared.Instruction.{Instruction}
 use Rattle.instructions.specs.declared.Instruction.TheVariants.{Load, Store, GetStatic, PutStatic, Const, Binary, Negate, Increment, NewArray, ArrayLoad, ArrayStore, ArrayLength, Pop, Dup, Dup2, Jump, JumpIf, Call, Return, Enter, Exit, Read, Print, Trap}
-use Rattle.step.specs.State.{State, state, Step, moves, takes, writes, ends, at, with_operand, with_heap, with_call, with_data}
+use Rattle.step.specs.State.{State, Step, moves, takes, writes, ends, at, with_operand, with_heap, with_call, with_data}
 use Rattle.step.specs.Stacks.{illegal, word_at, go_to, pushed, push, pop, inside, local}
-use Rattle.step.specs.Arrays.{over, array_words, used, length_word, not_null, not_negative, below, element, element_in, with_element, new_array}
-use Rattle.step.specs.Calls.{call, return_to, return, frame_words, entered, enter, exit}
+use Rattle.step.specs.Arrays.{over, array_words, length_word, not_null, not_negative, element, element_in, with_element, new_array}
+use Rattle.step.specs.Calls.{call, return_to, frame_words, entered, enter}
 use Rattle.step.specs.Perform.{result, perform, fetched, performed, step}
 use Rattle.step.specs.Sound.{Sound}
 

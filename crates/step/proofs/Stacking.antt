@@ -1,5 +1,5 @@
 -- The operand stack, where the words are there.
-use Rattle.std.proofs.Common.{◌≡◌, ℕ, ◌-◌, ◌<◌, ◌≤◌, true, cond, ltb, length, ℤ, ap, ◌∙◌, arith}
+use Rattle.std.proofs.Common.{◌≡◌, ◌-◌, ◌<◌, ◌≤◌, true, cond, ltb, length, ℤ, ap, ◌∙◌, arith}
 use Rattle.std.proofs.lemmas.Bool.{lt-ltb}
 use Rattle.step.specs.State.{State, Step, with_operand}
 use Rattle.step.specs.Stacks.{illegal, word_at, pop, push, pushed}

@@ -1,7 +1,7 @@
 -- A word, a body and zeros, written over a store one after another.
-use Rattle.std.proofs.Common.{◌≡◌, ℕ, ◌+◌, ◌<◌, ◌≤◌, List, [], ◌∷◌, ◌++◌, length, take, drop, set, ℤ, sym, refl, ap, ◌∙◌, append_assoc, arith, length-append, length-take}
+use Rattle.std.proofs.Common.{◌≡◌, ℕ, ◌+◌, ◌<◌, ◌≤◌, List, [], ◌∷◌, ◌++◌, length, take, drop, set, ℤ, sym, ap, ◌∙◌, append_assoc, arith, length-append, length-take}
 use borrow.Rule.Slice.PartMut.{put_mid}
-use Rattle.std.proofs.lemmas.List.{take_more_set, drop-set-lt, drop-drop, take_at, drop_at, length-take-le}
+use Rattle.std.proofs.lemmas.List.{take_more_set, drop-set-lt, drop-drop, take_at, drop_at}
 use Rattle.step.specs.Arrays.{over}
 
 -- a part behind a front of known length

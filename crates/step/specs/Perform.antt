@@ -1,5 +1,5 @@
 -- What each instruction does, in the order of the instruction set's table; `next` is the offset behind it.
-use Rattle.std.specs.Prelude.{ℕ, cond, List, [], length, drop, ℤ, pos, negsuc, ◌+ℤ◌, Some, None, Option, ◌==◌, nat_lt, slice_set}
+use Rattle.std.specs.Prelude.{ℕ, cond, List, length, drop, ℤ, pos, negsuc, ◌+ℤ◌, Some, None, Option, ◌==◌, nat_lt, slice_set}
 use Rattle.outcomes.specs.declared.Verdict.TheVariants.{MissingReturn, DivisionByZero}
 use Rattle.words.specs.Arithmetic.{wrap, compute, negation, holds}
 use Rattle.words.specs.Bytes.{kept}

@@ -19,7 +19,7 @@ returns-in-Err g c =
 
 pub loop-steps-preserved : goal.loop-steps-preserved
 loop-steps-preserved g c =
-    let t = c.in-default.ensures in
+    let t = c.in_default.ensures in
     let k = g.C.Console in
     let l = c.loop-steps in
     let m = c.turn.new in

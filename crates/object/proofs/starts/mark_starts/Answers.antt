@@ -1,8 +1,8 @@
-use Rattle.std.proofs.Common.{◌≡◌, ◌+◌, ◌-◌, ◌<◌, ◌≤◌, true, false, length, take, drop, Some, None, sym, ap, ◌∙◌, subst, arith, length-drop, length-set, rules}
+use Rattle.std.proofs.Common.{◌≡◌, length, drop, Some, sym, ap, ◌∙◌, subst, arith, length-drop, length-set}
 use Rattle.std.proofs.lemmas.List.{take_rest}
 use Rattle.std.proofs.lemmas.Bool.{both_ways}
 use Rattle.instructions.specs.Decode.{decoded}
-use Rattle.object.specs.Code.{Boundary, Begins}
+use Rattle.object.specs.Code.{Boundary}
 use Rattle.object.proofs.Boundaries.{boundary_first, boundary_next}
 use Rattle.object.proofs.Marking.{marks_sound, marks_complete}
 use Rattle.object.proofs.Sizes.{decoded_size}
@@ -11,15 +11,15 @@ use Rattle.object.proofs.starts.mark_starts.Goals as goal
 pub loop-at-init : goal.loop-at-init
 loop-at-init c = (boundary_first _, omega arith, c.told-starts, λ k e. absurd (both_ways _ (c.requires.blank k) e), λ k b l. absurd (omega arith))
 
-pub returns-in-default : goal.returns-in-default
-returns-in-default c =
+pub returns-in_default : goal.returns-in_default
+returns-in_default c =
     let code = c.args.code.now in
     record {
       begins = record { boundary = c.loop-at.invariant.0; inside = c.loop-at-test.true };
-      none = ap decoded (sym (take_rest code c.loop-at.at)) ∙ sym c.decode.ensures ∙ c.in-default.is;
+      none = ap decoded (sym (take_rest code c.loop-at.at)) ∙ sym c.decode.ensures ∙ c.in_default.is;
     }
 
-reads : (c : goal.After-struct-known·1) → decoded (drop c.loop-at.at c.args.code.now) ≡ Some c.in-Some.found
+reads : (c : goal.After-struct_known-1) → decoded (drop c.loop-at.at c.args.code.now) ≡ Some c.in-Some.found
 reads c = ap decoded (sym (take_rest c.args.code.now c.loop-at.at)) ∙ sym c.decode.ensures ∙ c.in-Some.is
 
 pub loop-at-smaller : goal.loop-at-smaller

@@ -1,4 +1,4 @@
-use Rattle.std.proofs.Common.{sym, ◌∙◌, arith, rules, below_more}
+use Rattle.std.proofs.Common.{arith, below_more}
 use Rattle.std.proofs.lemmas.Bool.{both_ways}
 use Rattle.object.proofs.targets.first_stray.Goals as goal
 use Rattle.object.proofs.targets.first_stray.Goals.{else-starts-at-via-then-starts-at+else-strays, else-starts-at-via-else-starts-at}

@@ -1,4 +1,4 @@
-use Rattle.std.proofs.Common.{◌≡◌, true, false, drop, Some, sym, refl, ap, ◌∙◌, w16, SFits, rules}
+use Rattle.std.proofs.Common.{false, sym, refl, ap, ◌∙◌, w16, SFits, rules}
 use Rattle.std.proofs.lemmas.List.{take_rest}
 use Rattle.std.proofs.lemmas.Int.{to_z-of_z}
 use Rattle.std.proofs.lemmas.Bool.{both_ways}
@@ -6,17 +6,17 @@ use Rattle.instructions.specs.Decode.{decoded}
 use Rattle.object.proofs.Straying.{unread, still, decides_strays}
 use Rattle.object.proofs.targets.strays.Goals as goal
 
-pub returns-in-default : goal.returns-in-default
-returns-in-default c =
+pub returns-in_default : goal.returns-in_default
+returns-in_default c =
     let code = c.args.code.now in
-    let e = ap decoded (sym (take_rest code c.args.at)) ∙ sym c.decode.ensures ∙ c.in-default.is in
+    let e = ap decoded (sym (take_rest code c.args.at)) ∙ sym c.decode.ensures ∙ c.in_default.is in
     (λ h. absurd (both_ways false refl h), λ s. absurd (unread code c.args.at e s))
 
-pub returns-in-default-distance : goal.returns-in-default-distance
-returns-in-default-distance c =
+pub returns-in_default-distance : goal.returns-in_default-distance
+returns-in_default-distance c =
     let code = c.args.code.now in
     let e = ap decoded (sym (take_rest code c.args.at)) ∙ sym c.decode.ensures ∙ c.in-Some.is in
-    (λ h. absurd (both_ways false refl h), λ s. absurd (still code c.args.at c.in-Some.found e (sym c.distance.ensures ∙ c.in-default-distance.is) s))
+    (λ h. absurd (both_ways false refl h), λ s. absurd (still code c.args.at c.in-Some.found e (sym c.distance.ensures ∙ c.in_default-distance.is) s))
 
 pub returns : goal.returns
 returns c =

@@ -1,4 +1,4 @@
-use Rattle.std.proofs.Common.{◌≡◌, min, Some, sym, ap, ◌∙◌, subst, rules}
+use Rattle.std.proofs.Common.{Some, sym, subst}
 use Rattle.std.proofs.lemmas.Bool.{both_ways}
 use Rattle.object.specs.Targets.{Lowest, UnfitTargetAt}
 use Rattle.object.proofs.Straying.{with_main, without_main, lower}

@@ -1,4 +1,4 @@
-use Rattle.std.proofs.Common.{◌≡◌, ℕ, ◌-◌, List, get_or, set, ℤ, pos, Ok, Err, sym, refl, ap, ◌∙◌, arith, w32, SFits, to_z, of_z, rules}
+use Rattle.std.proofs.Common.{◌≡◌, ℕ, ◌-◌, get_or, set, ℤ, pos, Ok, Err, sym, refl, ap, ◌∙◌, arith, w32, SFits, to_z, of_z, rules}
 use Rattle.std.proofs.lemmas.Result.{err_from_is_err_and}
 use Rattle.std.proofs.lemmas.Int.{to_z-of_z, to_z_pos}
 use Rattle.words.specs.declared.printing.Kind.{Kind}

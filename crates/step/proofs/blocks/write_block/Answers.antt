@@ -1,4 +1,4 @@
-use Rattle.std.proofs.Common.{◌≡◌, ◌+◌, ◌-◌, List, length, set, replicate, ℤ, pos, ap, ◌∙◌, arith, length-append, length-drop, length-set, length-take, w32, SFits, rules}
+use Rattle.std.proofs.Common.{◌≡◌, ◌+◌, ◌-◌, length, set, replicate, ℤ, pos, ap, ◌∙◌, arith, length-append, length-drop, length-set, length-take, w32, SFits}
 use borrow.Rule.Slice.PartMut.{put_mid}
 use lib.ListN.{length-replicate}
 use Rattle.std.proofs.lemmas.Int.{to_z-of_z}

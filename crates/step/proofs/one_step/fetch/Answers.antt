@@ -1,4 +1,4 @@
-use Rattle.std.proofs.Common.{◌≡◌, ◌-◌, ◌<◌, ◌≤◌, length, nat_abs, ap, ◌∙◌, w32, SFits, rules}
+use Rattle.std.proofs.Common.{◌<◌, length, nat_abs, ap, ◌∙◌, w32, SFits}
 use Rattle.std.proofs.lemmas.List.{take_rest}
 use Rattle.std.proofs.lemmas.Int.{to_z-of_z}
 use Rattle.instructions.specs.Decode.{decoded}

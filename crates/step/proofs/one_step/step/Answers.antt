@@ -1,4 +1,4 @@
-use Rattle.std.proofs.Common.{◌≡◌, ◌+◌, pos, ◌+ℤ◌, nat_abs, Some, None, sym, refl, ap, ◌∙◌, subst, w32, SFits, rules}
+use Rattle.std.proofs.Common.{◌≡◌, ◌+◌, pos, nat_abs, Some, None, sym, refl, ap, ◌∙◌, subst, w32, SFits, rules}
 use Rattle.std.proofs.lemmas.Int.{to_z-of_z}
 use Rattle.step.specs.State.{State, state, Step}
 use Rattle.step.specs.Perform.{step, fetched, performed, perform}
@@ -6,13 +6,13 @@ use Rattle.step.specs.Promises.{Did, InCode}
 use Rattle.step.proofs.Fetching.{next_is}
 use Rattle.step.proofs.one_step.step.Goals as goal
 
-pub returns-in-default : goal.returns-in-default
+pub returns-in_default : goal.returns-in_default
 unfolding step
-returns-in-default c =
+returns-in_default c =
     let a = c.args in
     let s : State = state a.r.now a.data.now a.heap.now a.call.now a.operand.now in
     let f : SFits w32 a.r.now.pc = search rules in
-    let e : fetched a.code.now a.r.now.pc ≡ None = sym (simp to_z-of_z at c.fetch.ensures.value) ∙ c.in-default.is in
+    let e : fetched a.code.now a.r.now.pc ≡ None = sym (simp to_z-of_z at c.fetch.ensures.value) ∙ c.in_default.is in
     (ap (λ o. performed o s) e, refl)
 
 pub returns : goal.returns

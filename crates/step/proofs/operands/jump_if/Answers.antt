@@ -1,4 +1,4 @@
-use Rattle.std.proofs.Common.{◌≡◌, ◌-◌, Bool, true, false, cond, List, get_or, ℤ, pos, ◌+ℤ◌, sym, ap, ◌∙◌, arith, w16, w32, SFits, to_z, of_z, rules}
+use Rattle.std.proofs.Common.{◌≡◌, ◌-◌, Bool, true, false, cond, get_or, ℤ, pos, ◌+ℤ◌, sym, ap, ◌∙◌, arith, w16, w32, SFits, to_z, of_z, rules}
 use Rattle.std.proofs.lemmas.Int.{ints, to_z-of_z}
 use Rattle.words.specs.Arithmetic.{holds}
 use Rattle.step.specs.State.{State, state, with_operand}
