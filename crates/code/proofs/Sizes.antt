@@ -1,16 +1,14 @@
 -- The code of each form is as long as its size says.
-use Rattle.std.proofs.Common.{◌≡◌, ℕ, zero, suc, ◌+◌, List, [], ◌∷◌, ◌++◌, length, Some, None, Option, refl, ap, ◌∙◌, append_assoc, append-nil, arith, length-append}
+use Rattle.std.proofs.Common.{◌≡◌, ℕ, ◌+◌, List, [], ◌∷◌, ◌++◌, length, Some, None, Option, refl, ap, ◌∙◌, append_assoc, append-nil, arith, length-append}
 use Rattle.words.specs.declared.arithmetic.Relation.{Relation}
 use Rattle.words.specs.declared.printing.Kind.{Kind}
 use Rattle.instructions.specs.declared.Instruction.{Instruction}
-use Rattle.instructions.specs.declared.Instruction.TheVariants.{Const}
 use Rattle.program.specs.declared.Direction.{Direction}
 use Rattle.program.specs.declared.Direction.TheVariants.{Up, Down}
-use Rattle.program.specs.declared.Variable.{Variable}
 use Rattle.program.specs.declared.Variable.TheVariants.{Local, Global}
-use Rattle.program.specs.Core.{Value, constant, load, load_element, negate, binary, new_array, length_of, convert, result, Values, no_values, and_value, Comparison, compare, Conjunction, single, both, Condition, only, either, Target, variable, element, Action, assign, step, read, print, invoke, discard, when, choose, while, break, return, give, block, nothing, Actions, no_actions, and_then, Method, Program}
+use Rattle.program.specs.Core.{Value, constant, load, load_element, negate, binary, new_array, length_of, convert, result, Values, no_values, and_value, compare, Conjunction, single, both, Condition, only, either, Target, variable, element, Action, assign, step, read, print, invoke, discard, when, choose, while, break, return, give, block, nothing, Actions, no_actions, and_then, Method}
 use Rattle.code.specs.Encoding.{encode, size}
-use Rattle.code.specs.Patterns.{Line, line, loads, stores, opposite, size_v, size_vs, size_comparison, size_conjunction, size_condition, size_before, size_store, size_step, size_a, size_as, code_v, code_vs, code_comparison, code_last, code_term, code_condition, code_before, height_behind, code_store, operation, code_step, code_a, code_as, code_end, code_method, size_method, size_methods, code_methods, lines_of, entry_of}
+use Rattle.code.specs.Patterns.{Line, line, opposite, size_v, size_vs, size_conjunction, size_condition, size_before, size_store, size_step, size_a, size_as, code_v, code_vs, code_comparison, code_last, code_term, code_condition, code_before, code_store, operation, code_step, code_a, code_as, code_end, code_method, size_method, size_methods, code_methods, entry_of}
 use Rattle.code.specs.Objects.{bytes_of}
 use Rattle.code.specs.Laws.{CodeHasItsSize}
 

@@ -1,5 +1,5 @@
 -- Instructions as the translator writes them: the shortest form, operands high byte first.
-use Rattle.std.specs.Prelude.{ℕ, ◌+◌, ◌/◌, ◌%◌, cond, List, [], ◌∷◌, ◌++◌, length, ℤ, pos, negsuc, nat_le}
+use Rattle.std.specs.Prelude.{ℕ, ◌+◌, ◌/◌, ◌%◌, cond, List, [], ◌∷◌, length, ℤ, pos, negsuc, nat_le}
 use Rattle.std.specs.Int.{w8, w16, w32}
 use Rattle.std.proofs.Common.{of_z}
 use Rattle.words.specs.declared.arithmetic.Operator.{Operator}

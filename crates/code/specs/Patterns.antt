@@ -1,6 +1,5 @@
 -- The code of a core program, form by form, with the operand height before each instruction: how many operands the method holds there.
-use Rattle.std.specs.Prelude.{ℕ, zero, suc, ◌+◌, Bool, true, false, List, [], ◌∷◌, ◌++◌, length, ℤ, pos, negsuc, ◌-ℤ◌, Some, None, Option}
-use Rattle.words.specs.declared.arithmetic.Operator.{Operator}
+use Rattle.std.specs.Prelude.{ℕ, zero, suc, ◌+◌, List, [], ◌∷◌, ◌++◌, length, ℤ, pos, negsuc, ◌-ℤ◌, Some, None, Option}
 use Rattle.words.specs.declared.arithmetic.Operator.TheVariants.{Add, Subtract}
 use Rattle.words.specs.declared.arithmetic.Relation.{Relation}
 use Rattle.words.specs.declared.arithmetic.Relation.TheVariants.{Equal, NotEqual, Less, LessOrEqual, Greater, GreaterOrEqual}

@@ -1,5 +1,5 @@
 -- Whole programs: items are judged in the order of the text, and the first that is not legal decides.
-use Rattle.std.specs.Prelude.{◌≡◌, ℕ, ◌+◌, Bool, true, false, List, [], ◌∷◌, ◌++◌, length, drop, Some, None, Ok, Err, codes, Option, Result}
+use Rattle.std.specs.Prelude.{ℕ, ◌+◌, Bool, true, false, List, [], ◌∷◌, ◌++◌, length, Some, None, Ok, Err, codes, Option, Result}
 use Rattle.std.specs.Option.{option_or}
 use Rattle.outcomes.specs.declared.Fault.{Fault}
 use Rattle.outcomes.specs.declared.Position.{Position}
@@ -7,8 +7,7 @@ use Rattle.words.specs.declared.printing.Kind.{Kind}
 use Rattle.program.specs.declared.Shape.{Shape}
 use Rattle.program.specs.declared.Variable.TheVariants.{Local, Global}
 use Rattle.program.specs.Core as core
-use Rattle.syntax.specs.Trees as tree
-use Rattle.syntax.specs.Trees.{Name, Literal, integer, letter, Designator, whole, element, Statement, assign, invoke, step, when, choose, while, break, return, give, read, print, print_wide, block, empty, Statements, none, and_then, Declared, Declareds, Variables, Declaration, constant, variables, Parameter, ResultType, void, typed, Method, Program}
+use Rattle.syntax.specs.Trees.{Name, Literal, integer, letter, Designator, whole, element, Statement, assign, invoke, step, when, choose, while, break, return, give, read, print, print_wide, block, empty, Statements, none, and_then, Declared, Variables, Declaration, constant, variables, Parameter, ResultType, void, typed, Method, Program}
 use Rattle.context.specs.Scopes as scope
 use Rattle.context.specs.Scopes.{Thing, shaped, Scope, predeclared, seek, lookup, with_outer, with_local, without_locals, outer_count}
 use Rattle.context.specs.Typing as typing

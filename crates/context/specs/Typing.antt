@@ -1,5 +1,5 @@
 -- The type of each expression, which forms are legal, and the core that a legal form stands for.
-use Rattle.std.specs.Prelude.{ℕ, zero, suc, Bool, true, false, cond, ◌&&◌, ◌||◌, List, [], ◌∷◌, Some, None, Option, ◌==◌, nat_le}
+use Rattle.std.specs.Prelude.{ℕ, Bool, true, false, cond, ◌&&◌, ◌||◌, List, [], ◌∷◌, Some, None, Option, ◌==◌, nat_le}
 use Rattle.words.specs.declared.arithmetic.Operator.{Operator}
 use Rattle.words.specs.declared.arithmetic.Operator.TheVariants.{Add, Subtract, Multiply, Divide, Remainder}
 use Rattle.words.specs.declared.arithmetic.Relation.{Relation}

@@ -1,16 +1,16 @@
 -- What is known at a depth stays known at a greater one.
-use Rattle.std.proofs.Common.{◌≡◌, ℕ, zero, suc, ◌+◌, ◌≤◌, Bool, true, false, leb, List, [], ◌∷◌, length, ℤ, pos, Some, None, Option, refl, arith}
+use Rattle.std.proofs.Common.{ℕ, zero, suc, ◌+◌, ◌≤◌, Bool, true, false, leb, List, length, ℤ, pos, Some, None, Option, arith}
 use Rattle.words.specs.declared.printing.Kind.{Kind}
 use Rattle.words.specs.Arithmetic as words
 use Rattle.words.specs.Bytes.{kept}
 use Rattle.program.specs.declared.Direction.{Direction}
 use Rattle.program.specs.declared.Variable.{Variable}
 use Rattle.program.specs.declared.Variable.TheVariants.{Local, Global}
-use Rattle.program.specs.Core.{Value, constant, load, load_element, negate, binary, new_array, length_of, convert, result, Values, no_values, and_value, Comparison, compare, Conjunction, single, both, Condition, only, either, Target, variable, element, Action, assign, step, read, print, invoke, discard, when, choose, while, break, return, give, block, nothing, Actions, no_actions, and_then, Method, Program, at}
-use Rattle.meaning.specs.World.{World, Limits, Outcome, done, cut, Work, ◌>>=◌}
-use Rattle.meaning.specs.Evaluation.{Calls, Site, get, computed, converted, evaluate, evaluate_all, holds, unless, provided, holds_all, satisfied, Flow, goes, broke, returned, put, store, stepped, step_by_one, read_word, choice, on, again, loop, perform, perform_all, at_end, left, frame, enter, calls}
+use Rattle.program.specs.Core.{Value, constant, load, load_element, negate, binary, new_array, length_of, convert, result, Values, no_values, and_value, Comparison, compare, Conjunction, single, both, Condition, only, either, Target, variable, element, Action, assign, step, read, print, invoke, discard, when, choose, while, break, return, give, block, nothing, Actions, no_actions, and_then, Method, at}
+use Rattle.meaning.specs.World.{World, Limits, done, Work, ◌>>=◌}
+use Rattle.meaning.specs.Evaluation.{Calls, Site, get, evaluate, evaluate_all, holds, unless, provided, holds_all, satisfied, Flow, goes, broke, returned, put, store, stepped, step_by_one, read_word, choice, on, again, loop, perform, perform_all, at_end, left, frame, enter, calls}
 use Rattle.meaning.proofs.Logs.{Before, same}
-use Rattle.meaning.proofs.Growing.{log_of, Grows, Follows, done_grows, cut_grows, itself, done_follows, fails_follows, then_follows, choice_follows, itself_follows}
+use Rattle.meaning.proofs.Growing.{log_of, Follows, cut_grows, itself, done_follows, fails_follows, then_follows, choice_follows, itself_follows}
 use Rattle.meaning.proofs.Operations.{take_word_follows, write_follows, global_follows, set_global_follows, computed_follows, get_element_follows, set_element_follows, array_length_follows, new_follows}
 
 abbrev CallsFollow : Calls → Calls → Type 0

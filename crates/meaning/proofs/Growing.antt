@@ -1,5 +1,5 @@
 -- What is worked out at two depths: the deeper one knows what the other knows.
-use Rattle.std.proofs.Common.{◌≡◌, Bool, true, false, cond, List, ℤ, sym, refl, ap, subst}
+use Rattle.std.proofs.Common.{◌≡◌, Bool, true, false, cond, List, sym, refl, subst}
 use Rattle.outcomes.specs.declared.Verdict.{Verdict}
 use Rattle.meaning.specs.World.{Event, World, Ending, Outcome, done, stop, cut, Work, ◌>>=◌, bind, fails}
 use Rattle.meaning.specs.Evaluation.{choice}

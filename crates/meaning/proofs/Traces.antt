@@ -1,11 +1,11 @@
 -- There is one trace.
-use Rattle.std.proofs.Common.{◌≡◌, ℕ, ◌+◌, ◌<◌, ◌≤◌, List, [], ◌∷◌, ◌++◌, length, ℤ, Some, None, Option, sym, refl, ap, ◌∙◌, subst, append-nil, arith}
+use Rattle.std.proofs.Common.{◌≡◌, ℕ, ◌+◌, ◌≤◌, List, [], ◌∷◌, ◌++◌, length, ℤ, Some, None, Option, sym, refl, ap, ◌∙◌, subst, append-nil, arith}
 use Rattle.outcomes.specs.declared.Verdict.{Verdict}
 use Rattle.program.specs.Core.{Program}
-use Rattle.meaning.specs.World.{Event, took, wrote, ended, World, Limits, Ending, verdict, starved, Outcome, done, stop, cut, Work, bind, fails}
-use Rattle.meaning.specs.Trace.{begun, from_main, up_to, events_of, Numbered, Case, known, InTrace, BreaksOff, OneTrace, EveryProgramHasOneTrace}
-use Rattle.meaning.proofs.Logs.{Plain, Prefix, Before, same_prefix, trans_prefix, same, stays_numbered, below_length, same_event, no_verdict}
-use Rattle.meaning.proofs.Growing.{log_of, Below, Grows, Follows, bind_grows, cut_grows, stop_grows, fails_follows}
+use Rattle.meaning.specs.World.{Event, ended, World, Limits, Ending, verdict, starved, Outcome, done, stop, cut}
+use Rattle.meaning.specs.Trace.{begun, from_main, events_of, Numbered, Case, known, EveryProgramHasOneTrace}
+use Rattle.meaning.proofs.Logs.{Plain, Prefix, same_prefix, trans_prefix, same, stays_numbered, below_length, same_event, no_verdict}
+use Rattle.meaning.proofs.Growing.{log_of, Below, Grows, Follows, bind_grows, cut_grows, fails_follows}
 use Rattle.meaning.proofs.Depths.{calls_follow}
 
 main_follows : (p : Program) (L : Limits) (k j : ℕ) → k ≤ j → (m : Option ℕ) → Follows (from_main p L k m) (from_main p L j m)

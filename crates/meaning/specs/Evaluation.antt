@@ -1,6 +1,5 @@
 -- What each form of a program does. A loop is followed for k turns and calls to a depth of k: what lies beyond is cut off.
-use Rattle.std.specs.Prelude.{ℕ, zero, suc, ◌+◌, Bool, true, false, cond, List, [], ◌∷◌, ◌++◌, length, replicate, ℤ, pos, negsuc, Some, None, Option, nat_le, slice_index_or, slice_set}
-use Rattle.std.proofs.Math.ListN.{get_elem?}
+use Rattle.std.specs.Prelude.{ℕ, zero, suc, ◌+◌, Bool, true, false, List, [], ◌∷◌, ◌++◌, length, replicate, ℤ, pos, Some, None, Option, nat_le, slice_index_or, slice_set}
 use Rattle.outcomes.specs.declared.Verdict.TheVariants.{MissingReturn, DivisionByZero, CallStackExhausted, OperandStackExhausted}
 use Rattle.words.specs.declared.arithmetic.Operator.{Operator}
 use Rattle.words.specs.declared.arithmetic.Operator.TheVariants.{Add, Subtract}
@@ -12,8 +11,8 @@ use Rattle.program.specs.declared.Direction.{Direction}
 use Rattle.program.specs.declared.Direction.TheVariants.{Up, Down}
 use Rattle.program.specs.declared.Variable.{Variable}
 use Rattle.program.specs.declared.Variable.TheVariants.{Local, Global}
-use Rattle.program.specs.Core.{Value, constant, load, load_element, negate, binary, new_array, length_of, convert, result, Values, no_values, and_value, Comparison, compare, Conjunction, single, both, Condition, only, either, Target, variable, element, Action, assign, step, read, print, invoke, discard, when, choose, while, break, return, give, block, nothing, Actions, no_actions, and_then, Method, Program, at}
-use Rattle.meaning.specs.World.{World, Limits, Outcome, done, cut, Work, ◌>>=◌, bind, fails, take_word, write, global, set_global, get_element, set_element, array_length, new}
+use Rattle.program.specs.Core.{Value, constant, load, load_element, negate, binary, new_array, length_of, convert, result, Values, no_values, and_value, Comparison, compare, Conjunction, single, both, Condition, only, either, Target, variable, element, Action, assign, step, read, print, invoke, discard, when, choose, while, break, return, give, block, nothing, Actions, no_actions, and_then, Method, at}
+use Rattle.meaning.specs.World.{Limits, done, cut, Work, ◌>>=◌, fails, take_word, write, global, set_global, get_element, set_element, array_length, new}
 
 -- what a call of a method does, by its number: on the arguments, the values pending in all callers, and the words of all calls
 abbrev pub Calls : Type 0

@@ -2,8 +2,8 @@
 use Rattle.std.specs.Prelude.{◌≡◌, ℕ, ◌<◌, ◌≤◌, List, [], ◌∷◌, ◌++◌, length, replicate, ℤ, pos, Some, None, Option}
 use Rattle.outcomes.specs.declared.Verdict.{Verdict}
 use Rattle.outcomes.specs.declared.Verdict.TheVariants.{Finished}
-use Rattle.program.specs.Core.{Method, Program}
-use Rattle.meaning.specs.World.{Event, ended, World, Limits, Ending, verdict, starved, Outcome, done, stop, cut, Work, ◌>>=◌, bind, fails}
+use Rattle.program.specs.Core.{Program}
+use Rattle.meaning.specs.World.{Event, ended, World, Limits, verdict, starved, Outcome, done, stop, cut, Work, bind, fails}
 use Rattle.meaning.specs.Evaluation.{calls}
 
 -- no event yet, all globals 0, no array

@@ -1,5 +1,5 @@
 -- The core program: names are numbers, types are decided, constants are their values. Nothing is computed ahead.
-use Rattle.std.specs.Prelude.{ℕ, zero, suc, ◌+◌, List, [], ◌∷◌, ◌++◌, length, Some, None, Option}
+use Rattle.std.specs.Prelude.{ℕ, zero, suc, ◌+◌, List, [], ◌∷◌, length, Some, None, Option}
 use Rattle.outcomes.specs.declared.Position.{Position}
 use Rattle.words.specs.declared.arithmetic.Operator.{Operator}
 use Rattle.words.specs.declared.arithmetic.Relation.{Relation}

@@ -1,10 +1,10 @@
 -- The flat list of a program: its operations in the order of their code.
-use Rattle.std.specs.Prelude.{ℕ, Bool, true, false, List, [], ◌∷◌, ◌++◌, length, Some, None, Option}
+use Rattle.std.specs.Prelude.{Bool, true, false, List, [], ◌∷◌, ◌++◌, length, Some, None, Option}
 use Rattle.words.specs.declared.printing.Kind.{Kind}
 use Rattle.program.specs.declared.operation.Head.{Head}
 use Rattle.program.specs.declared.operation.Operation.{Operation}
 use Rattle.program.specs.declared.operation.Operation.TheVariants as op
-use Rattle.program.specs.Core.{Value, constant, load, load_element, negate, binary, new_array, length_of, convert, result, Values, no_values, and_value, Comparison, compare, Conjunction, single, both, Condition, only, either, Target, variable, element, Action, assign, step, read, print, invoke, discard, when, choose, while, break, return, give, block, nothing, Actions, no_actions, and_then, Method, Program, count, variable_count}
+use Rattle.program.specs.Core.{Value, constant, load, load_element, negate, binary, new_array, length_of, convert, result, Values, no_values, and_value, Comparison, compare, Conjunction, single, both, Condition, only, either, Target, variable, element, Action, assign, step, read, print, invoke, discard, when, choose, while, break, return, give, block, nothing, Actions, no_actions, and_then, Method, count, variable_count}
 
 abbrev mutual
   pub flat_v : Value → List Operation

@@ -1,7 +1,7 @@
 -- Legal core programs: every variable and method is there, types fit, and numbers keep their limits. What a legal text stands for is one.
-use Rattle.std.specs.Prelude.{◌≡◌, ℕ, zero, suc, ◌≤◌, Bool, true, false, ◌⊎◌, List, [], ◌∷◌, ◌++◌, length, Some, None, Option}
+use Rattle.std.specs.Prelude.{◌≡◌, ℕ, ◌≤◌, Bool, true, false, ◌⊎◌, List, [], ◌∷◌, ◌++◌, length, Some, None, Option}
 use Rattle.words.specs.declared.printing.Kind.{Kind}
-use Rattle.words.specs.declared.printing.Kind.TheVariants.{Int, Char}
+use Rattle.words.specs.declared.printing.Kind.TheVariants.{Int}
 use Rattle.program.specs.declared.Shape.{Shape}
 use Rattle.program.specs.declared.Variable.{Variable}
 use Rattle.program.specs.declared.Variable.TheVariants.{Local, Global}
