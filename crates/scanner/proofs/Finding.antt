@@ -1,15 +1,15 @@
 -- The front of a text that the code finds is the longest lexeme.
-use Rattle.std.proofs.Common.{◌≡◌, ℕ, zero, suc, ◌+◌, ◌<◌, ◌≤◌, Bool, true, false, cond, ◌&&◌, eqb, List, [], ◌∷◌, length, get_or, take, Some, None, Option, sym, refl, ap, ◌∙◌, subst, arith}
+use Rattle.std.proofs.Common.{◌≡◌, ℕ, suc, ◌<◌, true, List, [], ◌∷◌, length, get_or, take, Some, None, Option, sym, ap, ◌∙◌, subst, arith}
 use Rattle.std.specs.Option.{option_map}
 use Rattle.std.specs.List.{prefix_len}
 use Rattle.std.proofs.lemmas.List.{length-take-le}
 use Rattle.std.proofs.lemmas.List.Sums.{prefix_len-le-length}
-use Rattle.std.proofs.lemmas.Bool.{and_parts, cond-true, cond-false, eq-eqb, eqb-true, or_left, or_right}
+use Rattle.std.proofs.lemmas.Bool.{and_parts, cond-true, cond-false, eq-eqb, eqb-true, or_left}
 use Rattle.outcomes.specs.declared.Position.{Position}
 use Rattle.outcomes.specs.declared.Refusal.TheVariants.{NumberTooLarge}
 use Rattle.syntax.specs.Borrowed.{kind_meant}
 use Rattle.syntax.specs.Tokens.{number}
-use Rattle.syntax.specs.Lexemes.{is_letter, is_digit, is_name_part, is_blank, Class, blank, comment, namelike, numeric, quotation, operator, is, token_of, Longest, NoLexeme}
+use Rattle.syntax.specs.Lexemes.{is_letter, is_digit, is_name_part, is_blank, Class, blank, comment, namelike, numeric, quotation, operator, is, token_of, Longest}
 use Rattle.syntax.proofs.Classes.{by_first, number_class}
 use Rattle.syntax.proofs.Longest.{lexeme, leading_run, name_longest, number_longest, blank_longest, comment_longest, operator-longest, operator-none, constant-longest, constant-none}
 use Rattle.scanner.specs.declared.bytes.ByteClass.{ByteClass}

@@ -1,5 +1,5 @@
 -- The longest lexeme at the front of the bytes, computed.
-use Rattle.std.proofs.Common.{◌≡◌, ℕ, zero, suc, ◌+◌, ◌<◌, ◌≤◌, Bool, true, false, cond, ◌&&◌, eqb, leb, List, [], ◌∷◌, length, get_or, take, Some, None, Option, sym, refl, ap, ◌∙◌, subst, arith}
+use Rattle.std.proofs.Common.{◌≡◌, ℕ, suc, ◌≤◌, Bool, true, false, cond, eqb, List, [], ◌∷◌, length, take, Some, None, Option, sym, refl, ◌∙◌, subst, arith}
 use Rattle.std.proofs.lemmas.Bool.{eqb-true, both_ways, and_parts, cond-false}
 use Rattle.syntax.specs.Lexemes.{is_letter, is_digit, is_name_part, is_blank, Class, blank, comment, namelike, numeric, quotation, operator, is, Lexeme, Longest, NoLexeme}
 use Rattle.syntax.proofs.Classes.{by_first, empty_none}

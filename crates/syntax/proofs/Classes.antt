@@ -1,12 +1,12 @@
 -- The class of a lexeme is decided by its first bytes.
-use Rattle.std.proofs.Common.{◌≡◌, ℕ, zero, suc, ◌<◌, ◌≤◌, Bool, true, false, cond, not, ◌&&◌, ◌||◌, eqb, leb, ◌⊎◌, List, [], ◌∷◌, length, is_some, Some, None, Option, sym, refl, ap, ◌∙◌, subst, inl, inr, arith}
+use Rattle.std.proofs.Common.{◌≡◌, ℕ, zero, suc, ◌≤◌, Bool, true, false, cond, ◌&&◌, eqb, leb, ◌⊎◌, List, [], ◌∷◌, length, is_some, Some, None, Option, sym, refl, ap, ◌∙◌, subst, inl, inr, arith}
 use Rattle.std.specs.Option.{option_or}
 use Rattle.std.specs.Str.{bytes_eq}
 use Rattle.std.proofs.lemmas.Slice.Eq.{bytes_eq-Decides}
 use Rattle.std.proofs.lemmas.Bool.{eqb-true, both_ways, and_parts, and_left, cond-true, cond-false, leb-true}
 use Rattle.std.proofs.lemmas.Bool.Decides.{nat_tests}
 use Rattle.syntax.specs.declared.symbol.Symbol.{Symbol}
-use Rattle.syntax.specs.Tokens.{name, number, character, symbol}
+use Rattle.syntax.specs.Tokens.{name, number, character}
 use Rattle.syntax.specs.Lexemes.{keywords, character_for, symbol_for, token_of, is_letter, is_digit, is_blank, Spelt, seek, operators, constant, quoted, Class, blank, comment, namelike, numeric, quotation, operator, is, NoLexeme}
 
 pub no_from : (t : Bool) → (t ≡ true → ⊥) → t ≡ false

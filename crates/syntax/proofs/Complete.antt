@@ -1,13 +1,13 @@
 -- The parser reads back what a tree spells: expressions.
-use Rattle.std.proofs.Common.{◌≡◌, ℕ, zero, suc, ◌+◌, ◌≤◌, max, Bool, true, false, cond, eqb, List, [], ◌∷◌, ◌++◌, sym, refl, subst, append_assoc, arith, true-eqb}
+use Rattle.std.proofs.Common.{◌≡◌, ℕ, zero, suc, ◌≤◌, max, true, false, eqb, List, ◌∷◌, ◌++◌, sym, refl, subst, append_assoc, arith, true-eqb}
 use Rattle.std.proofs.lemmas.Bool.Decides.{nat_tests}
 use Rattle.syntax.specs.declared.symbol.Symbol.{Symbol}
 use Rattle.syntax.specs.declared.symbol.Symbol.TheVariants as sym
-use Rattle.syntax.specs.Tokens.{TokenKind, name, number, character, symbol, Token}
+use Rattle.syntax.specs.Tokens.{Token}
 use Rattle.syntax.specs.Trees.{At, Name, Addop, plus, minus, Mulop, times, over, percent, Literal, integer, letter, Expr, positive, negative, Terms, no_terms, and_term, Term, product, Factors, no_factors, and_factor, Factor, value, call, literal, new, parenthesis, Designator, whole, element, Arguments, no_arguments, arguments, More, no_more, and_argument}
 use Rattle.syntax.specs.Spelling as spelling
-use Rattle.syntax.proofs.Fronts.{code, a_name, front, is_front, rest, place, begins_expr}
-use Rattle.syntax.proofs.Parser.{Parsed, took, failed, bind_p, Parse, ◌>>=◌, p_e, p_ts, p_t, p_fs, p_f, p_d, p_as, p_more}
+use Rattle.syntax.proofs.Fronts.{a_name, front, is_front, begins_expr}
+use Rattle.syntax.proofs.Parser.{took, Parse, p_e, p_ts, p_t, p_fs, p_f, p_d, p_as, p_more}
 
 -- tokens as they are
 abbrev pub keep : ℕ → Token → Token

@@ -1,15 +1,12 @@
 -- The parser reads back what a tree spells: declarations, methods and programs. So no two trees spell the same tokens.
-use Rattle.std.proofs.Common.{◌≡◌, ℕ, zero, suc, ◌+◌, ◌≤◌, max, Bool, true, false, cond, ◌&&◌, eqb, List, [], ◌∷◌, ◌++◌, sym, refl, ap, ◌∙◌, subst, append_assoc, append-nil, arith, true-eqb}
-use Rattle.std.proofs.lemmas.Bool.Decides.{nat_tests}
-use Rattle.syntax.specs.declared.symbol.Symbol.{Symbol}
+use Rattle.std.proofs.Common.{◌≡◌, ℕ, zero, suc, ◌≤◌, max, true, false, eqb, List, [], ◌∷◌, ◌++◌, sym, refl, ap, ◌∙◌, subst, append_assoc, arith, true-eqb}
 use Rattle.syntax.specs.declared.symbol.Symbol.TheVariants as sym
-use Rattle.syntax.specs.Tokens.{TokenKind, name, number, character, symbol, Token, token}
-use Rattle.syntax.specs.Trees.{At, Name, Literal, integer, letter, Statements, Declared, scalar, array, Declareds, last, and, Variables, Declaration, constant, variables, Parameter, Parameters, no_parameters, parameters, ResultType, void, typed, Method, Program, nearest_all, nearest_in}
+use Rattle.syntax.specs.Tokens.{Token}
+use Rattle.syntax.specs.Trees.{At, Literal, integer, letter, Statements, Declared, scalar, array, Declareds, last, and, Variables, Declaration, constant, variables, Parameter, Parameters, no_parameters, parameters, ResultType, void, typed, Method, Program, nearest_all, nearest_in}
 use Rattle.syntax.specs.Spelling as spelling
-use Rattle.syntax.specs.Reading as reading
 use Rattle.syntax.specs.Reading.{OneReading}
-use Rattle.syntax.proofs.Fronts.{code, a_name, front, is_front}
-use Rattle.syntax.proofs.Parser.{Parsed, took, failed, Parse, p_declared, p_declareds, p_variables, p_constant, p_declarations, p_locals, p_parameter, p_others, p_parameters, p_result, p_method, p_methods, p_program, p_ss}
+use Rattle.syntax.proofs.Fronts.{a_name, front, is_front}
+use Rattle.syntax.proofs.Parser.{took, p_declared, p_declareds, p_declarations, p_locals, p_others, p_parameters, p_result, p_method, p_methods, p_program, p_ss}
 use Rattle.syntax.proofs.Complete.{keep, Reads, Not}
 use Rattle.syntax.proofs.CompleteStatements.{ClosesBlock, split, reads_statements}
 

@@ -1,16 +1,15 @@
 -- The parser reads back what a tree spells: conditions and statements.
-use Rattle.std.proofs.Common.{◌≡◌, ℕ, zero, suc, ◌+◌, ◌≤◌, max, Bool, true, false, cond, ◌&&◌, eqb, List, [], ◌∷◌, ◌++◌, sym, refl, ap, ◌∙◌, subst, append_assoc, arith, true-eqb}
+use Rattle.std.proofs.Common.{◌≡◌, ℕ, zero, suc, ◌≤◌, max, Bool, true, false, ◌&&◌, eqb, List, [], ◌∷◌, ◌++◌, sym, refl, ap, subst, append_assoc, arith, true-eqb}
 use Rattle.std.proofs.lemmas.Bool.Decides.{nat_tests}
 use Rattle.words.specs.declared.arithmetic.Relation.{Relation}
 use Rattle.words.specs.declared.arithmetic.Relation.TheVariants as relation
-use Rattle.syntax.specs.declared.symbol.Symbol.{Symbol}
 use Rattle.syntax.specs.declared.symbol.Symbol.TheVariants as sym
-use Rattle.syntax.specs.Tokens.{TokenKind, name, number, character, symbol, Token, token}
-use Rattle.syntax.specs.Trees.{At, Name, Addop, plus, minus, Expr, Designator, whole, element, Arguments, Comparison, Conjunction, single, both, Condition, only, either, Statement, assign, invoke, step, when, choose, while, break, return, give, read, print, print_wide, block, empty, Statements, none, and_then, closed, nearest, nearest_all}
+use Rattle.syntax.specs.Tokens.{number, Token, token}
+use Rattle.syntax.specs.Trees.{At, Addop, plus, minus, Expr, Designator, whole, element, Arguments, Comparison, Conjunction, single, both, Condition, only, either, Statement, assign, invoke, step, when, choose, while, break, return, give, read, print, print_wide, block, empty, Statements, none, and_then, closed, nearest, nearest_all}
 use Rattle.syntax.specs.Spelling as spelling
-use Rattle.syntax.proofs.Fronts.{code, a_name, front, is_front, rest, place, begins_expr, begins_statement}
-use Rattle.syntax.proofs.Parser.{Parsed, took, failed, bind_p, Parse, ◌>>=◌, p_e, p_d, p_as, p_comparison, p_conjunction, p_condition, p_s, p_ss}
-use Rattle.syntax.proofs.Complete.{keep, Reads, Not, AfterExpr, AfterName, Closes, starts_expr, front_designator, reads_e, reads_d, reads_as}
+use Rattle.syntax.proofs.Fronts.{a_name, front, is_front, begins_expr, begins_statement}
+use Rattle.syntax.proofs.Parser.{took, p_e, p_comparison, p_conjunction, p_condition, p_s, p_ss}
+use Rattle.syntax.proofs.Complete.{keep, Reads, Not, AfterExpr, starts_expr, front_designator, reads_e, reads_d, reads_as}
 
 abbrev compared : Expr → Relation → At → Expr → Comparison
 compared a o p b = record { left = a; relation = o; relation_at = p; right = b }

@@ -1,5 +1,5 @@
 -- The front of a list of tokens: a number for what its first token is.
-use Rattle.std.proofs.Common.{ℕ, Bool, true, false, cond, ◌||◌, eqb, List, [], ◌∷◌}
+use Rattle.std.proofs.Common.{ℕ, Bool, ◌||◌, eqb, List, [], ◌∷◌}
 use Rattle.outcomes.specs.declared.Position.{Position}
 use Rattle.syntax.specs.declared.symbol.Symbol.{Symbol}
 use Rattle.syntax.specs.declared.symbol.Symbol.TheVariants as sym

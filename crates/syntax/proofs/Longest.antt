@@ -1,10 +1,10 @@
 -- Which front of the bytes is their longest lexeme, class by class; `best` computes it.
-use Rattle.std.proofs.Common.{◌≡◌, ℕ, zero, suc, ◌+◌, ◌<◌, ◌≤◌, Bool, true, false, cond, not, ◌&&◌, eqb, leb, ◌⊎◌, List, [], ◌∷◌, length, get_or, take, is_some, Some, None, Option, sym, refl, ap, ◌∙◌, subst, inl, inr, ⊎_elim, arith}
+use Rattle.std.proofs.Common.{◌≡◌, ℕ, zero, suc, ◌+◌, ◌<◌, ◌≤◌, Bool, true, false, cond, not, ◌&&◌, eqb, ◌⊎◌, List, [], ◌∷◌, length, take, is_some, sym, refl, ◌∙◌, subst, ⊎_elim, arith}
 use Rattle.std.specs.List.{prefix_len}
 use Rattle.std.proofs.lemmas.List.{length-take-le}
 use Rattle.std.proofs.lemmas.Bool.{eqb-true, both_ways, and_parts, and_from, and_left, and_right, cond-false}
 use Rattle.syntax.specs.Lexemes.{is_letter, is_digit, is_name_part, is_blank, plain, all, Class, blank, comment, namelike, numeric, quotation, operator, is, Lexeme, Longest, NoLexeme}
-use Rattle.syntax.proofs.Classes.{no_from, by_first, class_of, first_letter, first_digit, first_blank, first_quote, not_slash, no_comment, class_first, quoted_some, quoted_value, operators_short, constants_short, class_is, none_empty}
+use Rattle.syntax.proofs.Classes.{no_from, by_first, first_letter, first_digit, first_blank, first_quote, not_slash, class_first, quoted_some, quoted_value, operators_short, constants_short, class_is, none_empty}
 
 abbrev pub in_line : ℕ → Bool
 in_line b = not (eqb b 10)

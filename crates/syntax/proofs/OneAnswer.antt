@@ -1,11 +1,11 @@
 -- No text has two answers of the first stage.
-use Rattle.std.proofs.Common.{◌≡◌, ℕ, ◌<◌, ◌≤◌, true, false, ◌⊎◌, List, [], ◌∷◌, ◌++◌, length, take, drop, Some, None, Ok, Err, Option, Result, sym, refl, ap, ◌∙◌, subst, ⊎_elim, arith}
+use Rattle.std.proofs.Common.{◌≡◌, ℕ, ◌<◌, ◌≤◌, true, List, [], ◌∷◌, ◌++◌, length, take, drop, Some, Ok, Err, Result, sym, refl, ap, ◌∙◌, subst, ⊎_elim, arith}
 use Rattle.std.proofs.lemmas.List.{append_cancel_right}
 use Rattle.std.proofs.lemmas.Bool.{both_ways, cases_order}
 use Rattle.outcomes.specs.declared.Fault.{Fault}
 use Rattle.outcomes.specs.declared.Position.{Position}
 use Rattle.outcomes.specs.declared.Refusal.TheVariants.{NoToken, NumberTooLarge}
-use Rattle.syntax.specs.Tokens.{TokenKind, number, Token, start, behind}
+use Rattle.syntax.specs.Tokens.{number, Token, start, behind}
 use Rattle.syntax.specs.Lexemes.{Class, numeric, is, token_of, Lexeme, Longest, NoLexeme}
 use Rattle.syntax.specs.Scanning.{Fits, Cut, tokens, Cuts, CutUpTo, RefusedByScan, long, no_token, large, ScannedAs}
 use Rattle.syntax.proofs.Classes.{empty_none, one_class}

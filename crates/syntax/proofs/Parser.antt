@@ -1,12 +1,12 @@
 -- A parser as a function, for proofs: n bounds how deep its calls go.
-use Rattle.std.proofs.Common.{ℕ, zero, suc, Bool, true, false, cond, eqb, List, [], ◌∷◌}
+use Rattle.std.proofs.Common.{ℕ, zero, suc, cond, eqb, List, [], ◌∷◌}
 use Rattle.words.specs.declared.arithmetic.Relation.{Relation}
 use Rattle.words.specs.declared.arithmetic.Relation.TheVariants as relation
 use Rattle.syntax.specs.declared.symbol.Symbol.{Symbol}
 use Rattle.syntax.specs.declared.symbol.Symbol.TheVariants as sym
 use Rattle.syntax.specs.Tokens.{TokenKind, name, number, character, symbol, Token}
 use Rattle.syntax.specs.Trees.{At, Name, Addop, plus, minus, Mulop, times, over, percent, Literal, integer, letter, Expr, positive, negative, Terms, no_terms, and_term, Term, product, Factors, no_factors, and_factor, Factor, value, call, literal, new, parenthesis, Designator, whole, element, Arguments, no_arguments, arguments, More, no_more, and_argument, Comparison, Conjunction, single, both, Condition, only, either, Statement, assign, invoke, step, when, choose, while, break, return, give, read, print, print_wide, block, empty, Statements, none, and_then, Declared, scalar, array, Declareds, last, and, Variables, Declaration, constant, variables, Parameter, Parameters, no_parameters, parameters, ResultType, void, typed, Method, Program}
-use Rattle.syntax.proofs.Fronts.{code, a_name, a_number, a_character, front, is_front, rest, place}
+use Rattle.syntax.proofs.Fronts.{a_name, front, is_front, rest, place}
 
 infixl 20 ◌>>=◌
 pub data Parsed (A : Type 0) : Type 0 where

@@ -3,7 +3,7 @@ use Rattle.std.proofs.Common.{◌≡◌, ℕ, zero, suc, ◌+◌, ◌<◌, ◌�
 use Rattle.std.proofs.lemmas.List.{append-nil, append_assoc, nil_from_length, take-append-drop}
 use Rattle.std.proofs.lemmas.Bool.{both_ways}
 use Rattle.outcomes.specs.declared.Position.{Position}
-use Rattle.syntax.specs.Tokens.{TokenKind, Token, token, start, behind}
+use Rattle.syntax.specs.Tokens.{TokenKind, Token, start, behind}
 use Rattle.syntax.specs.Lexemes.{Lexeme, is, token_of, Longest}
 use Rattle.syntax.specs.Scanning.{Fits, Cut, before, tokens, Cuts, CutUpTo}
 use Rattle.syntax.proofs.Classes.{none_empty}

@@ -1,8 +1,6 @@
-use Rattle.std.proofs.Common.{Some, sym, refl, ap, ◌∙◌}
-use Rattle.words.specs.Laws.{worth}
-use Rattle.syntax.specs.Tokens.{number}
+use Rattle.std.proofs.Common.{sym, refl, ap, ◌∙◌}
 use Rattle.syntax.specs.Lexemes.{blank, comment, namelike, numeric, token_of}
-use Rattle.scanner.specs.declared.bytes.ByteClass.TheVariants.{NamePart, Digit, InLine}
+use Rattle.scanner.specs.declared.bytes.ByteClass.TheVariants.{NamePart, Digit}
 use Rattle.scanner.proofs.Finding.{run_front, word_found, number_found, blank_found, comment_found}
 use Rattle.scanner.proofs.lexeme.longest_lexeme.Goals as goal
 

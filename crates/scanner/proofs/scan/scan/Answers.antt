@@ -1,4 +1,4 @@
-use Rattle.std.proofs.Common.{◌≡◌, ◌<◌, List, [], ◌++◌, length, vec_items, sym, refl, ap, ◌∙◌, subst, arith, rules}
+use Rattle.std.proofs.Common.{List, vec_items, sym, refl, ◌∙◌, subst, arith}
 use Rattle.std.proofs.lemmas.List.{append-nil}
 use Rattle.std.proofs.lemmas.Result.{err_from_is_err_and}
 use Rattle.syntax.specs.declared.token.Token.{Token as BorrowedToken}
@@ -55,7 +55,7 @@ pub loop-scanner-preserved : goal.loop-scanner-preserved
 loop-scanner-preserved c =
     let s = c.loop-scanner.scanner in
     let t = c.next.new.self in
-    let step = subst (Taken s t) c.in-default.is c.in_ok-token.ensures in (
+    let step = subst (Taken s t) c.in_default.is c.in_ok-token.ensures in (
       step-progress c.args.text.now (vec_items c.loop-scanner.tokens) (vec_items c.loop-scanner.tokens) s t _ c.loop-scanner.invariant.0 step (sym (append-nil _)),
       step_room s t _ step c.loop-scanner.invariant.1,
       c.loop-scanner.invariant.2,
