@@ -2,13 +2,13 @@ use Rattle.std.proofs.Common.{◌-◌, arith}
 use Rattle.console.proofs.Rounds.{along_pop, length_along}
 use Rattle.console.proofs.ring.Ring.pop.Goals as goal
 
-pub invariant-of-self : goal.invariant-of-self
-invariant-of-self g c =
+pub invariant_of-self : goal.invariant_of-self
+invariant_of-self g c =
     let s = c.args.self.now in
     let first = c.place-self.result in
     let full = s.full_length in
     let counted = length_along first (s.count - 1) s.items (omega arith) (omega arith) in
-    (full, (c.place-self.ensures.within, (omega arith, (counted, tt))))
+    record { full_length = full; first_within = c.place-self.ensures.within; count_within = omega arith; counted = counted }
 
 pub returns : goal.returns
 returns g c =

@@ -2,13 +2,13 @@ use Rattle.std.proofs.Common.{◌+◌, set, refl, ◌∙◌, arith, length-set}
 use Rattle.console.proofs.Rounds.{along_push, length_along}
 use Rattle.console.proofs.ring.Ring.write_behind.Goals as goal
 
-pub invariant-of-self : goal.invariant-of-self
-invariant-of-self g c =
+pub invariant_of-self : goal.invariant_of-self
+invariant_of-self g c =
     let s = c.args.self.now in
     let items = set s.items c.place-at.result c.args.item in
     let full = length-set s.items c.place-at.result c.args.item ∙ s.full_length in
     let counted = length_along s.first s.count items (omega arith) (omega arith) in
-    (full, (s.first_within, (s.count_within, (counted, tt))))
+    record { full_length = full; first_within = s.first_within; count_within = s.count_within; counted = counted }
 
 pub returns : goal.returns
 returns g c =
