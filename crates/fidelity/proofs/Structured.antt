@@ -1,6 +1,6 @@
 -- A machine between the meaning and the flat stores: arrays as the meaning has them, operands and locals of each call as lists.
 -- What no code of a legal program does ends with verdict 9.
-use Rattle.std.proofs.Common.{ℕ, zero, suc, ◌+◌, Bool, true, false, cond, eqb, ltb, leb, List, [], ◌∷◌, ◌++◌, reverse, length, get_or, take, drop, set, replicate, ℤ, pos, negsuc, ◌+ℤ◌, Some, None, Option}
+use Rattle.std.proofs.Common.{ℕ, ◌+◌, cond, eqb, ltb, leb, List, [], ◌∷◌, ◌++◌, reverse, length, get_or, take, drop, set, replicate, ℤ, pos, negsuc, ◌+ℤ◌, Some, None, Option}
 use Rattle.outcomes.specs.declared.Verdict.TheVariants.{Finished, MissingReturn, CallStackExhausted, OperandStackExhausted, IllegalStep}
 use Rattle.words.specs.Arithmetic.{wrap, compute, negation, holds}
 use Rattle.words.specs.Bytes.{kept}
@@ -8,7 +8,7 @@ use Rattle.words.specs.Printing.{printed_as}
 use Rattle.instructions.specs.declared.Decoded.{Decoded}
 use Rattle.instructions.specs.declared.Instruction.{Instruction}
 use Rattle.instructions.specs.declared.Instruction.TheVariants.{Load, Store, GetStatic, PutStatic, Const, Binary, Negate, Increment, NewArray, ArrayLoad, ArrayStore, ArrayLength, Pop, Dup, Dup2, Jump, JumpIf, Call, Return, Enter, Exit, Read, Print, Trap}
-use Rattle.meaning.specs.World.{World, Limits, Ending, verdict, Outcome, done, stop, cut, Work, take_word, write, global, set_global, get_element, set_element, array_length, new}
+use Rattle.meaning.specs.World.{World, Limits, Ending, verdict, Outcome, done, stop, cut, take_word, write, global, set_global, get_element, set_element, array_length, new}
 use Rattle.meaning.specs.Evaluation.{computed}
 
 -- a call that waits for another one to return: where it goes on, its operands (the uppermost first) and its locals

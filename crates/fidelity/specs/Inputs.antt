@@ -1,5 +1,5 @@
 -- The machine on a whole input, with unlimited room: what n steps take and write, and how they end.
-use Rattle.std.specs.Prelude.{ℕ, zero, suc, List, [], ◌∷◌, ◌++◌, length, replicate, ℤ, pos, negsuc, slice_set}
+use Rattle.std.specs.Prelude.{ℕ, zero, suc, List, [], ◌∷◌, ◌++◌, replicate, ℤ, pos, negsuc, slice_set}
 use Rattle.outcomes.specs.declared.Verdict.{Verdict}
 use Rattle.step.specs.State.{State, state, Step, moves, takes, writes, ends}
 use Rattle.step.specs.Perform.{step}

@@ -1,12 +1,11 @@
 -- What the code of a program promises: on every input, the machine shows the program's trace, event for event, at fixed counts of steps.
-use Rattle.std.specs.Prelude.{◌≡◌, ℕ, suc, ◌+◌, ◌<◌, ◌≤◌, false, ◌⊎◌, ◌↔◌, List, [], ◌∷◌, ◌++◌, length, take, ℤ, pos, Some, None, Option, ◌≢◌}
+use Rattle.std.specs.Prelude.{◌≡◌, ℕ, suc, ◌<◌, ◌≤◌, false, ◌⊎◌, ◌↔◌, List, [], ◌∷◌, ◌++◌, length, take, ℤ, pos, Some, None, Option, ◌≢◌}
 use mathlib.Core.List.{Memᴰ}
-use Rattle.outcomes.specs.declared.Verdict.{Verdict}
 use Rattle.outcomes.specs.declared.Verdict.TheVariants.{IllegalStep}
 use Rattle.step.specs.State.{State}
 use Rattle.program.specs.Core.{Program}
 use Rattle.program.specs.Legal.{Legal}
-use Rattle.meaning.specs.World.{Event, took, wrote, ended, Limits, limits}
+use Rattle.meaning.specs.World.{Event, took, wrote, ended, limits}
 use Rattle.meaning.specs.Trace.{Case, InTrace}
 use Rattle.code.specs.Patterns.{lines_of, size_methods}
 use Rattle.code.specs.Objects.{object_of, high}

@@ -1,12 +1,11 @@
 -- The texts that are no programs, worked out.
-use Rattle.std.proofs.Common.{◌≡◌, ℕ, zero, suc, ◌<◌, ◌≤◌, List, [], ◌∷◌, ◌++◌, length, take, drop, codes, sym, refl, ap, ◌∙◌, arith}
-use Rattle.outcomes.specs.declared.Position.{Position}
+use Rattle.std.proofs.Common.{◌≡◌, ℕ, zero, suc, ◌<◌, ◌≤◌, List, [], ◌++◌, take, drop, codes, sym, refl, ap, ◌∙◌, arith}
 use Rattle.syntax.specs.declared.symbol.Symbol.TheVariants as sym
 use Rattle.syntax.specs.Tokens.{Token, token, symbol}
 use Rattle.syntax.specs.Trees.{Program}
-use Rattle.syntax.specs.Spelling.{spell, levels}
-use Rattle.syntax.specs.Reading.{Reads, Begins, Unexpected, Deep, NoneDeepBefore, RefusedByParse, unexpected, incomplete}
-use Rattle.syntax.proofs.Parser.{Parsed, took, failed, p_program}
+use Rattle.syntax.specs.Spelling.{spell}
+use Rattle.syntax.specs.Reading.{Reads, Begins, NoneDeepBefore, unexpected, incomplete}
+use Rattle.syntax.proofs.Parser.{took, failed, p_program}
 use Rattle.syntax.proofs.CompletePrograms.{program_reads}
 use Rattle.syntax.proofs.Levels.{level_at}
 use Rattle.syntax.proofs.Scanned.{scanned, scanned_cuts}

@@ -1,11 +1,10 @@
 -- The samples, worked out.
-use Rattle.std.proofs.Common.{◌≡◌, ℕ, List, [], ◌∷◌, codes, refl}
+use Rattle.std.proofs.Common.{ℕ, List, [], codes, refl}
 use Rattle.std.specs.Fmt.{digits}
 use Rattle.std.specs.Int.{int_wrap}
 use Rattle.words.specs.Arithmetic.{wrap}
 use Rattle.words.specs.Printing.{printed_as}
-use Rattle.meaning.specs.World.{Event, Limits, limits}
-use Rattle.meaning.specs.Trace.{up_to, events_of}
+use Rattle.meaning.specs.World.{Event, Limits}
 use Rattle.machine.proofs.Counting.{counts_down}
 use Rattle.program.specs.Core.{Program}
 use Rattle.syntax.proofs.Scanned.{scanned}

@@ -4,10 +4,8 @@ use Rattle.std.proofs.lemmas.Bool.{leb-true}
 use Rattle.outcomes.specs.declared.Fault.{Fault}
 use Rattle.outcomes.specs.declared.Position.{Position}
 use Rattle.syntax.specs.Tokens.{Token}
-use Rattle.syntax.specs.Scanning.{Cuts}
 use Rattle.syntax.specs.Trees as tree
 use Rattle.syntax.specs.Spelling.{spell, levels}
-use Rattle.syntax.specs.Reading.{Reads, Shallow}
 use Rattle.syntax.proofs.Parser.{Parsed, took, failed, p_program}
 use Rattle.syntax.proofs.Scanned.{scanned, scanned_cuts}
 use Rattle.context.specs.Resolving.{resolved}

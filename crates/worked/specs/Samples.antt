@@ -1,5 +1,5 @@
 -- Worked samples: whole texts, and what they come to.
-use Rattle.std.specs.Prelude.{◌≡◌, ℕ, List, [], ◌∷◌, ◌++◌, reverse, ℤ, pos, negsuc, Some, Ok, codes}
+use Rattle.std.specs.Prelude.{◌≡◌, ℕ, List, [], ◌∷◌, reverse, ℤ, pos, negsuc, Some, Ok, codes}
 use Rattle.outcomes.specs.declared.Position.{Position}
 use Rattle.outcomes.specs.declared.Refusal.TheVariants.{UnexpectedToken}
 use Rattle.outcomes.specs.declared.Verdict.TheVariants.{Finished, HeapExhausted}
@@ -11,7 +11,6 @@ use Rattle.context.specs.Resolving.{resolved}
 use Rattle.program.specs.Core.{Program}
 use Rattle.meaning.specs.World.{Event, wrote, ended, Limits, limits}
 use Rattle.meaning.specs.Trace.{up_to, events_of}
-use Rattle.object.specs.File.{Object}
 use Rattle.code.specs.Objects.{object_of}
 use Rattle.machine.specs.Laws.{counting_loop, CountingLoopCounts}
 
