@@ -25,7 +25,7 @@ CHOSEN = {
 NAME = re.compile(r"[A-Za-z_][A-Za-z0-9_']*(?:-[A-Za-z0-9_'+]+)*")
 DEFINED = re.compile(
     r"^(\s*)(?:(?:pub|abbrev|unfoldable|opaque|private|rec|data|record)\s+)*"
-    r"([A-Za-z][A-Za-z0-9_'-]*)((?:\s+[A-Za-z][A-Za-z0-9_'-]*)*)\s*:\s+(\S*)"
+    r"([A-Za-z][A-Za-z0-9_'-]*)((?:\s+[A-Za-z][A-Za-z0-9_'-]*)*)\s*:(?:\s+(\S*)|$)"
 )
 ANSWERS = ("Answers.antt", "Invariants.antt", "Choices.antt", "Proof.antt")
 GOALS = ("goal.", "need.", "rule.")
@@ -60,9 +60,10 @@ def own_names(top):
     found = set()
     for path in files(top, ".antt"):
         answers = os.path.basename(path) in ANSWERS
-        for line in lines(path):
+        text = lines(path)
+        for line, behind in zip(text, text[1:] + [""]):
             match = DEFINED.match(line)
-            if not match or line.lstrip().startswith("--") or match.group(4).startswith(GOALS):
+            if not match or line.lstrip().startswith("--") or (match.group(4) or behind.strip()).startswith(GOALS):
                 continue
             if not (answers and match.group(1)):
                 found.add(match.group(2))

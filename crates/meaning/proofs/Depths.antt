@@ -89,11 +89,11 @@ module _ (L : Limits) (f g : Calls) (h : CallsFollow f g) where
   put_follows (Local n) v l q u = done_follows _
   put_follows (Global n) v l q u = then_follows (set_global_follows n v) λ _. done_follows (goes l)
 
-  store-follows :
+  store_follows :
       (t : Target) (x y : Site → Work ℤ) → ((l : List ℤ) (q u : ℕ) → Follows (x (site L f l q u)) (y (site L g l q u))) → (l : List ℤ) (q u : ℕ) →
       Follows (store t (site L f l q u) x) (store t (site L g l q u) y)
-  store-follows (variable z) x y e l q u = then_follows (e l q u) λ v. put_follows z v l q u
-  store-follows (element k z i) x y e l q u =
+  store_follows (variable z) x y e l q u = then_follows (e l q u) λ v. put_follows z v l q u
+  store_follows (element k z i) x y e l q u =
       then_follows (get_follows z l q u) λ r. then_follows (evaluate_follows i l (q + 1) u) λ j. then_follows (e l (q + 2) u) λ v. then_follows (set_element_follows L k r j v) λ _. done_follows (goes l)
 
   step_follows : (d : Direction) (t : Target) (l : List ℤ) (q u : ℕ) → Follows (step_by_one d t (site L f l q u)) (step_by_one d t (site L g l q u))
@@ -107,9 +107,9 @@ module _ (L : Limits) (f g : Calls) (h : CallsFollow f g) where
 
   mutual
     perform_follows : (a : Action) (k j : ℕ) → k ≤ j → (l : List ℤ) (q u : ℕ) → Follows (perform a k (site L f l q u)) (perform a j (site L g l q u))
-    perform_follows (assign t v) k j e l q u = store-follows t (evaluate v) (evaluate v) (evaluate_follows v) l q u
+    perform_follows (assign t v) k j e l q u = store_follows t (evaluate v) (evaluate v) (evaluate_follows v) l q u
     perform_follows (step d t) k j e l q u = step_follows d t l q u
-    perform_follows (read i t) k j e l q u = store-follows t (read_word i) (read_word i) (read_follows i) l q u
+    perform_follows (read i t) k j e l q u = store_follows t (read_word i) (read_word i) (read_follows i) l q u
     perform_follows (print i v n) k j e l q u = then_follows (evaluate_follows v l q u) λ a. then_follows (write_follows _) λ _. done_follows (goes l)
     perform_follows (invoke m vs) k j e l q u = then_follows (evaluate_follows (result m vs) l q u) λ _. done_follows (goes l)
     perform_follows (discard m vs) k j e l q u = then_follows (evaluate_follows (result m vs) l q u) λ _. done_follows (goes l)

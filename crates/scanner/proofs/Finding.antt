@@ -11,7 +11,7 @@ use Rattle.syntax.specs.Borrowed.{kind_meant}
 use Rattle.syntax.specs.Tokens.{number}
 use Rattle.syntax.specs.Lexemes.{is_letter, is_digit, is_name_part, is_blank, Class, blank, comment, namelike, numeric, quotation, operator, is, token_of, Longest}
 use Rattle.syntax.proofs.Classes.{by_first, number_class}
-use Rattle.syntax.proofs.Longest.{lexeme, leading_run, name_longest, number_longest, blank_longest, comment_longest, operator-longest, operator-none, constant-longest, constant-none}
+use Rattle.syntax.proofs.Longest.{lexeme, leading_run, name_longest, number_longest, blank_longest, comment_longest, operator_longest, operator_none, constant_longest, constant_none}
 use Rattle.scanner.specs.declared.bytes.ByteClass.{ByteClass}
 use Rattle.scanner.specs.declared.bytes.ByteClass.TheVariants.{NamePart, Digit, InLine}
 use Rattle.scanner.specs.declared.lexeme.Lexeme.{Lexeme}
@@ -69,21 +69,21 @@ only_operators b bs o = cond-false _ _ _ o.letter ∙ cond-false _ _ _ o.digit �
 pub two_found : (text : List ℕ) (l : Lexeme) → OnlyOperators text → Candidate operator 2 text l → Found text l
 two_found [] l o k = absurd (omega (arith, o.some))
 two_found (b ∷ bs) l o k =
-    candidate_found operator 2 (b ∷ bs) l k (operator-longest b bs 2 (only_operators b bs o) o.comment k.within k.lexeme (λ small. absurd (omega arith)) (omega arith))
+    candidate_found operator 2 (b ∷ bs) l k (operator_longest b bs 2 (only_operators b bs o) o.comment k.within k.lexeme (λ small. absurd (omega arith)) (omega arith))
 
 pub one_found : (text : List ℕ) (r : Option Lexeme) → OnlyOperators text → Tried operator 2 text None → Tried operator 1 text r → FoundOrNone text r
 one_found [] r o two k = absurd (omega (arith, o.some))
-one_found (b ∷ bs) None o two k = operator-none b bs (only_operators b bs o) o.comment (k (omega arith)) two
+one_found (b ∷ bs) None o two k = operator_none b bs (only_operators b bs o) o.comment (k (omega arith)) two
 one_found (b ∷ bs) (Some l) o two k =
-    candidate_found operator 1 (b ∷ bs) l k (operator-longest b bs 1 (only_operators b bs o) o.comment k.within k.lexeme (λ small within. two within) (omega arith))
+    candidate_found operator 1 (b ∷ bs) l k (operator_longest b bs 1 (only_operators b bs o) o.comment k.within k.lexeme (λ small within. two within) (omega arith))
 
 pub constant_found : (n : ℕ) (text : List ℕ) (l : Lexeme) → 0 < length text → get_or text 0 0 ≡ 39 → Candidate quotation n text l → Found text l
 constant_found n [] l some q k = absurd (omega arith)
-constant_found n (b ∷ bs) l some q k = candidate_found quotation n (b ∷ bs) l k (constant-longest b bs n (eq-eqb b 39 q) k.within k.lexeme)
+constant_found n (b ∷ bs) l some q k = candidate_found quotation n (b ∷ bs) l k (constant_longest b bs n (eq-eqb b 39 q) k.within k.lexeme)
 
 pub last_constant : (text : List ℕ) (r : Option Lexeme) → 0 < length text → get_or text 0 0 ≡ 39 → Tried quotation 3 text None → Tried quotation 4 text r → FoundOrNone text r
 last_constant [] r some q three k = absurd (omega arith)
-last_constant (b ∷ bs) None some q three k = constant-none b bs (eq-eqb b 39 q) three k
+last_constant (b ∷ bs) None some q three k = constant_none b bs (eq-eqb b 39 q) three k
 last_constant (b ∷ bs) (Some l) some q three k = constant_found 4 (b ∷ bs) l some q k
 
 pub large_found : (rest : List ℕ) (p : Position) (l : Lexeme) → Found rest l → TooLarge (option_map kind_meant l.kind) → RefusedAt rest p (record { refusal = NumberTooLarge; position = p })

@@ -10,16 +10,16 @@ abbrev pub at : ℕ → ℕ → Position
 at line column = record { line = line; column = column }
 
 -- the byte at i is passed
-pub behind-line :
+pub behind_line :
     (line column l : ℕ) (bs : List ℕ) (i : ℕ) → i < length bs → get_or bs i 0 ≡ 10 → l ≡ line + 1 → behind (at l 1) (drop (i + 1) bs) ≡ behind (at line column) (drop i bs)
-behind-line line column l bs i h e m =
+behind_line line column l bs i h e m =
     ap (λ (n : ℕ). behind (at n 1) (drop (i + 1) bs)) m ∙
     ap (λ (p : Position). behind p (drop (i + 1) bs)) (sym (cond-true (eqb (get_or bs i 0) 10) (at (line + 1) 1) (at line (column + 1)) (eq-eqb _ 10 e))) ∙
     sym (at_drop_more (behind (at line column)) bs i 0 h)
 
-pub behind-column :
+pub behind_column :
     (line column k : ℕ) (bs : List ℕ) (i : ℕ) → i < length bs → (get_or bs i 0 ≡ 10 → ⊥) → k ≡ column + 1 → behind (at line k) (drop (i + 1) bs) ≡ behind (at line column) (drop i bs)
-behind-column line column k bs i h e m =
+behind_column line column k bs i h e m =
     ap (λ (n : ℕ). behind (at line n) (drop (i + 1) bs)) m ∙
     ap (λ (p : Position). behind p (drop (i + 1) bs)) (sym (cond-false (eqb (get_or bs i 0) 10) (at (line + 1) 1) (at line (column + 1)) (ne_eqb _ 10 e))) ∙
     sym (at_drop_more (behind (at line column)) bs i 0 h)

@@ -3,7 +3,7 @@ use Rattle.std.proofs.Common.{◌≡◌, ℕ, suc, ◌≤◌, Bool, true, false,
 use Rattle.std.proofs.lemmas.Bool.{eqb-true, both_ways, and_parts, cond-false}
 use Rattle.syntax.specs.Lexemes.{is_letter, is_digit, is_name_part, is_blank, Class, blank, comment, namelike, numeric, quotation, operator, is, Lexeme, Longest, NoLexeme}
 use Rattle.syntax.proofs.Classes.{by_first, empty_none}
-use Rattle.syntax.proofs.Longest.{in_line, lexeme, Run, run_more, run_none, run_empty, name_longest, number_longest, blank_longest, comment_longest, operator-longest, operator-none, constant-longest, constant-none}
+use Rattle.syntax.proofs.Longest.{in_line, lexeme, Run, run_more, run_none, run_empty, name_longest, number_longest, blank_longest, comment_longest, operator_longest, operator_none, constant_longest, constant_none}
 
 -- how many bytes pass the test before one does not; stops there, unlike a `cond`, whose parts are computed first
 unfoldable pub front : (ℕ → Bool) → List ℕ → ℕ
@@ -66,14 +66,14 @@ constant_found :
     (t u : Bool) (b : ℕ) (bs : List ℕ) → eqb b 39 ≡ true → 3 ≤ length (b ∷ bs) → is quotation (take 3 (b ∷ bs)) ≡ t →
     (u ≡ true → 4 ≤ length (b ∷ bs)) → (4 ≤ length (b ∷ bs) → is quotation (take 4 (b ∷ bs)) ≡ u) → Found (b ∷ bs) (constant_at t u)
 unfolding constant_at
-constant_found true u b bs q l h f i = constant-longest b bs 3 q l h
-constant_found false true b bs q l h f i = constant-longest b bs 4 q (f refl) (i (f refl))
-constant_found false false b bs q l h f i = constant-none b bs q (λ _. h) i
+constant_found true u b bs q l h f i = constant_longest b bs 3 q l h
+constant_found false true b bs q l h f i = constant_longest b bs 4 q (f refl) (i (f refl))
+constant_found false false b bs q l h f i = constant_none b bs q (λ _. h) i
 
 quote_found : (b : ℕ) (bs : List ℕ) → eqb b 39 ≡ true → Found (b ∷ bs) (quote_at (b ∷ bs))
 unfolding quote_at
-quote_found b [] q = constant-none b [] q (λ l. absurd (omega arith)) (λ l. absurd (omega arith))
-quote_found b (c ∷ []) q = constant-none b (c ∷ []) q (λ l. absurd (omega arith)) (λ l. absurd (omega arith))
+quote_found b [] q = constant_none b [] q (λ l. absurd (omega arith)) (λ l. absurd (omega arith))
+quote_found b (c ∷ []) q = constant_none b (c ∷ []) q (λ l. absurd (omega arith)) (λ l. absurd (omega arith))
 quote_found b (c ∷ d ∷ []) q = constant_found _ false b (c ∷ d ∷ []) q (omega arith) refl (λ h. absurd (both_ways _ refl h)) (λ l. absurd (omega arith))
 quote_found b (c ∷ d ∷ e ∷ bs) q = constant_found _ _ b (c ∷ d ∷ e ∷ bs) q (omega arith) refl (λ h. omega arith) (λ l. refl)
 
@@ -84,24 +84,24 @@ slashes_found a b bs h =
     subst (λ (x : ℕ). Longest (x ∷ b ∷ bs) (lexeme comment (suc (suc (front in_line bs))))) (sym first)
     (subst (λ (x : ℕ). Longest (47 ∷ x ∷ bs) (lexeme comment (suc (suc (front in_line bs))))) (sym second) (comment_longest bs _ (front_run in_line bs)))
 
-operator-found :
+operator_found :
     (t u v : Bool) (a b : ℕ) (bs : List ℕ) → by_first a ≡ operator → is comment (a ∷ b ∷ []) ≡ t → is operator (a ∷ b ∷ []) ≡ u → is operator (a ∷ []) ≡ v →
     Found (a ∷ b ∷ bs) (operator_at t u v bs)
 unfolding operator_at
-operator-found true u v a b bs o s two one = slashes_found a b bs s
-operator-found false true v a b bs o s two one = operator-longest a (b ∷ bs) 2 o s (omega arith) two (λ l. absurd (omega arith)) (omega arith)
-operator-found false false true a b bs o s two one = operator-longest a (b ∷ bs) 1 o s (omega arith) one (λ l g. two) (omega arith)
-operator-found false false false a b bs o s two one = operator-none a (b ∷ bs) o s one (λ g. two)
+operator_found true u v a b bs o s two one = slashes_found a b bs s
+operator_found false true v a b bs o s two one = operator_longest a (b ∷ bs) 2 o s (omega arith) two (λ l. absurd (omega arith)) (omega arith)
+operator_found false false true a b bs o s two one = operator_longest a (b ∷ bs) 1 o s (omega arith) one (λ l g. two) (omega arith)
+operator_found false false false a b bs o s two one = operator_none a (b ∷ bs) o s one (λ g. two)
 
 single_found : (v : Bool) (a : ℕ) → by_first a ≡ operator → is operator (a ∷ []) ≡ v → Found (a ∷ []) (operator_at false false v [])
 unfolding operator_at
-single_found true a o h = operator-longest a [] 1 o refl (omega arith) h (λ l g. absurd (omega arith)) (omega arith)
-single_found false a o h = operator-none a [] o refl h (λ g. absurd (omega arith))
+single_found true a o h = operator_longest a [] 1 o refl (omega arith) h (λ l g. absurd (omega arith)) (omega arith)
+single_found false a o h = operator_none a [] o refl h (λ g. absurd (omega arith))
 
 sign_found : (b : ℕ) (bs : List ℕ) → by_first b ≡ operator → Found (b ∷ bs) (sign_at (b ∷ bs))
 unfolding sign_at
 sign_found a [] o = single_found _ a o refl
-sign_found a (b ∷ bs) o = operator-found _ _ _ a b bs o refl refl refl
+sign_found a (b ∷ bs) o = operator_found _ _ _ a b bs o refl refl refl
 
 -- the tests in the order in which `by_first` makes them
 first_found :

@@ -68,9 +68,9 @@ pub starts_expr : (e : Expr) (l : ℕ) (us : List Token) → begins_expr (front 
 starts_expr (positive t ts) l us = rw append_assoc (starts_term t l l (spelling.terms keep ts l ++ us)).0
 starts_expr (negative p t ts) l us = refl
 
-positive-reads :
+positive_reads :
     (t : Term) (ts : Terms) (l : ℕ) → Reads p_t (spelling.term keep t l l) t AfterTerm → Reads p_ts (spelling.terms keep ts l) ts AfterExpr → Reads p_e (spelling.expr keep (positive t ts) l) (positive t ts) AfterExpr
-positive-reads t ts l r s = record { need = suc (max r.need s.need); reads = go }
+positive_reads t ts l r s = record { need = suc (max r.need s.need); reads = go }
   where
     go : (n : ℕ) (us : List Token) → suc (max r.need s.need) ≤ n → AfterExpr us → p_e n (spelling.expr keep (positive t ts) l ++ us) ≡ took (positive t ts) us
     go zero us h f = absurd (omega arith)
@@ -80,9 +80,9 @@ positive-reads t ts l r s = record { need = suc (max r.need s.need); reads = go 
         let c = (starts_term t l l (spelling.terms keep ts l ++ us)).1 in
         rw (append_assoc, c, a, b) refl
 
-negative-reads :
+negative_reads :
     (p : At) (t : Term) (ts : Terms) (l : ℕ) → Reads p_t (spelling.term keep t l 0) t AfterTerm → Reads p_ts (spelling.terms keep ts l) ts AfterExpr → Reads p_e (spelling.expr keep (negative p t ts) l) (negative p t ts) AfterExpr
-negative-reads p t ts l r s = record { need = suc (max r.need s.need); reads = go }
+negative_reads p t ts l r s = record { need = suc (max r.need s.need); reads = go }
   where
     go : (n : ℕ) (us : List Token) → suc (max r.need s.need) ≤ n → AfterExpr us → p_e n (spelling.expr keep (negative p t ts) l ++ us) ≡ took (negative p t ts) us
     go zero us h f = absurd (omega arith)
@@ -98,10 +98,10 @@ no_terms_reads l = record { need = 1; reads = go }
     go zero us h f = absurd (omega arith)
     go (suc m) us h f = rw (f.1, f.2) refl
 
-and-term-reads :
+and_term_reads :
     (o : Addop) (p : At) (t : Term) (ts : Terms) (l : ℕ) → Reads p_t (spelling.term keep t l 0) t AfterTerm → Reads p_ts (spelling.terms keep ts l) ts AfterExpr →
     Reads p_ts (spelling.terms keep (and_term o p t ts) l) (and_term o p t ts) AfterExpr
-and-term-reads o p t ts l r s = record { need = suc (max r.need s.need); reads = go o }
+and_term_reads o p t ts l r s = record { need = suc (max r.need s.need); reads = go o }
   where
     go : (o : Addop) (n : ℕ) (us : List Token) → suc (max r.need s.need) ≤ n → AfterExpr us → p_ts n (spelling.terms keep (and_term o p t ts) l ++ us) ≡ took (and_term o p t ts) us
     go plus zero us h f = absurd (omega arith)
@@ -115,9 +115,9 @@ and-term-reads o p t ts l r s = record { need = suc (max r.need s.need); reads =
         let b = s.reads m us (omega arith) f in
         rw (append_assoc, a, b) refl
 
-product-reads :
+product_reads :
     (g : Factor) (fs : Factors) (l o : ℕ) → Reads p_f (spelling.factor keep g l o) g AfterFactor → Reads p_fs (spelling.factors keep fs l) fs AfterTerm → Reads p_t (spelling.term keep (product g fs) l o) (product g fs) AfterTerm
-product-reads g fs l o r s = record { need = suc (max r.need s.need); reads = go }
+product_reads g fs l o r s = record { need = suc (max r.need s.need); reads = go }
   where
     go : (n : ℕ) (us : List Token) → suc (max r.need s.need) ≤ n → AfterTerm us → p_t n (spelling.term keep (product g fs) l o ++ us) ≡ took (product g fs) us
     go zero us h f = absurd (omega arith)
@@ -133,10 +133,10 @@ no_factors_reads l = record { need = 1; reads = go }
     go zero us h f = absurd (omega arith)
     go (suc m) us h f = rw (f.1, f.2, f.3) refl
 
-and-factor-reads :
+and_factor_reads :
     (o : Mulop) (p : At) (g : Factor) (fs : Factors) (l : ℕ) → Reads p_f (spelling.factor keep g l 0) g AfterFactor → Reads p_fs (spelling.factors keep fs l) fs AfterTerm →
     Reads p_fs (spelling.factors keep (and_factor o p g fs) l) (and_factor o p g fs) AfterTerm
-and-factor-reads o p g fs l r s = record { need = suc (max r.need s.need); reads = go o }
+and_factor_reads o p g fs l r s = record { need = suc (max r.need s.need); reads = go o }
   where
     go : (o : Mulop) (n : ℕ) (us : List Token) → suc (max r.need s.need) ≤ n → AfterTerm us → p_fs n (spelling.factors keep (and_factor o p g fs) l ++ us) ≡ took (and_factor o p g fs) us
     go times zero us h f = absurd (omega arith)
@@ -169,10 +169,10 @@ value_reads d l o r = record { need = suc r.need; reads = go }
         let c = front_designator d l o us in
         rw (c, a, f.0) refl
 
-call-reads :
+call_reads :
     (d : Designator) (p : At) (xs : Arguments) (q : At) (l o : ℕ) → Reads p_d (spelling.designator keep d l o) d AfterName → Reads p_as (spelling.argument_list keep xs l) xs Closes →
     Reads p_f (spelling.factor keep (call d p xs q) l o) (call d p xs q) AfterFactor
-call-reads d p xs q l o r s = record { need = suc (max r.need s.need); reads = go }
+call_reads d p xs q l o r s = record { need = suc (max r.need s.need); reads = go }
   where
     go : (n : ℕ) (us : List Token) → suc (max r.need s.need) ≤ n → AfterFactor us → p_f n (spelling.factor keep (call d p xs q) l o ++ us) ≡ took (call d p xs q) us
     go zero us h f = absurd (omega arith)
@@ -250,9 +250,9 @@ no_arguments_reads l = record { need = 1; reads = go }
     go zero us h f = absurd (omega arith)
     go (suc m) us h f = rw f refl
 
-arguments-reads :
+arguments_reads :
     (e : Expr) (m : More) (l : ℕ) → Reads p_e (spelling.expr keep e (suc l)) e AfterExpr → Reads p_more (spelling.more keep m l) m Closes → Reads p_as (spelling.argument_list keep (arguments e m) l) (arguments e m) Closes
-arguments-reads e m l r s = record { need = suc (max r.need s.need); reads = go }
+arguments_reads e m l r s = record { need = suc (max r.need s.need); reads = go }
   where
     go : (n : ℕ) (us : List Token) → suc (max r.need s.need) ≤ n → Closes us → p_as n (spelling.argument_list keep (arguments e m) l ++ us) ≡ took (arguments e m) us
     go zero us h f = absurd (omega arith)
@@ -269,9 +269,9 @@ no_more_reads l = record { need = 1; reads = go }
     go zero us h f = absurd (omega arith)
     go (suc k) us h f = let c = (closing us f).1 in rw c refl
 
-and-argument-reads :
+and_argument_reads :
     (p : At) (e : Expr) (m : More) (l : ℕ) → Reads p_e (spelling.expr keep e (suc l)) e AfterExpr → Reads p_more (spelling.more keep m l) m Closes → Reads p_more (spelling.more keep (and_argument p e m) l) (and_argument p e m) Closes
-and-argument-reads p e m l r s = record { need = suc (max r.need s.need); reads = go }
+and_argument_reads p e m l r s = record { need = suc (max r.need s.need); reads = go }
   where
     go : (n : ℕ) (us : List Token) → suc (max r.need s.need) ≤ n → Closes us → p_more n (spelling.more keep (and_argument p e m) l ++ us) ≡ took (and_argument p e m) us
     go zero us h f = absurd (omega arith)
@@ -282,23 +282,23 @@ and-argument-reads p e m l r s = record { need = suc (max r.need s.need); reads 
 
 mutual
   pub reads_e : (e : Expr) (l : ℕ) → Reads p_e (spelling.expr keep e l) e AfterExpr
-  reads_e (positive t ts) l = positive-reads t ts l (reads_t t l l) (reads_ts ts l)
-  reads_e (negative p t ts) l = negative-reads p t ts l (reads_t t l 0) (reads_ts ts l)
+  reads_e (positive t ts) l = positive_reads t ts l (reads_t t l l) (reads_ts ts l)
+  reads_e (negative p t ts) l = negative_reads p t ts l (reads_t t l 0) (reads_ts ts l)
 
   pub reads_ts : (ts : Terms) (l : ℕ) → Reads p_ts (spelling.terms keep ts l) ts AfterExpr
   reads_ts no_terms l = no_terms_reads l
-  reads_ts (and_term o p t ts) l = and-term-reads o p t ts l (reads_t t l 0) (reads_ts ts l)
+  reads_ts (and_term o p t ts) l = and_term_reads o p t ts l (reads_t t l 0) (reads_ts ts l)
 
   pub reads_t : (t : Term) (l o : ℕ) → Reads p_t (spelling.term keep t l o) t AfterTerm
-  reads_t (product f fs) l o = product-reads f fs l o (reads_f f l o) (reads_fs fs l)
+  reads_t (product f fs) l o = product_reads f fs l o (reads_f f l o) (reads_fs fs l)
 
   pub reads_fs : (fs : Factors) (l : ℕ) → Reads p_fs (spelling.factors keep fs l) fs AfterTerm
   reads_fs no_factors l = no_factors_reads l
-  reads_fs (and_factor o p f fs) l = and-factor-reads o p f fs l (reads_f f l 0) (reads_fs fs l)
+  reads_fs (and_factor o p f fs) l = and_factor_reads o p f fs l (reads_f f l 0) (reads_fs fs l)
 
   pub reads_f : (f : Factor) (l o : ℕ) → Reads p_f (spelling.factor keep f l o) f AfterFactor
   reads_f (value d) l o = value_reads d l o (reads_d d l o)
-  reads_f (call d p xs q) l o = call-reads d p xs q l o (reads_d d l o) (reads_as xs l)
+  reads_f (call d p xs q) l o = call_reads d p xs q l o (reads_d d l o) (reads_as xs l)
   reads_f (literal x) l o = literal_reads x l o
   reads_f (new p x q e r) l o = new_reads p x q e r l o (reads_e e (suc l))
   reads_f (parenthesis p e q) l o = parenthesis_reads p e q l o (reads_e e (suc l))
@@ -309,8 +309,8 @@ mutual
 
   pub reads_as : (xs : Arguments) (l : ℕ) → Reads p_as (spelling.argument_list keep xs l) xs Closes
   reads_as no_arguments l = no_arguments_reads l
-  reads_as (arguments e m) l = arguments-reads e m l (reads_e e (suc l)) (reads_more m l)
+  reads_as (arguments e m) l = arguments_reads e m l (reads_e e (suc l)) (reads_more m l)
 
   pub reads_more : (m : More) (l : ℕ) → Reads p_more (spelling.more keep m l) m Closes
   reads_more no_more l = no_more_reads l
-  reads_more (and_argument p e m) l = and-argument-reads p e m l (reads_e e (suc l)) (reads_more m l)
+  reads_more (and_argument p e m) l = and_argument_reads p e m l (reads_e e (suc l)) (reads_more m l)

@@ -14,10 +14,10 @@ use Rattle.syntax.proofs.Complete.{keep, Reads, Not, AfterExpr, starts_expr, fro
 abbrev compared : Expr → Relation → At → Expr → Comparison
 compared a o p b = record { left = a; relation = o; relation_at = p; right = b }
 
-comparison-reads :
+comparison_reads :
     (x : Expr) (o : Relation) (p : At) (y : Expr) (l : ℕ) → Reads p_e (spelling.expr keep x l) x AfterExpr → Reads p_e (spelling.expr keep y l) y AfterExpr →
     Reads p_comparison (spelling.comparison keep (compared x o p y) l) (compared x o p y) AfterExpr
-comparison-reads x o p y l r s = record { need = max r.need s.need; reads = go o }
+comparison_reads x o p y l r s = record { need = max r.need s.need; reads = go o }
   where
     left : (o : Relation) (n : ℕ) (us : List Token) → max r.need s.need ≤ n → AfterExpr (spelling.sign keep 0 (spelling.relop o) p ∷ us) → p_e n (spelling.expr keep x l ++ spelling.sign keep 0 (spelling.relop o) p ∷ us) ≡ took x (spelling.sign keep 0 (spelling.relop o) p ∷ us)
     left o n us h f = r.reads n (spelling.sign keep 0 (spelling.relop o) p ∷ us) (omega arith) f
@@ -49,7 +49,7 @@ comparison-reads x o p y l r s = record { need = max r.need s.need; reads = go o
         rw (append_assoc, a, b) refl
 
 reads_comparison : (c : Comparison) (l : ℕ) → Reads p_comparison (spelling.comparison keep c l) c AfterExpr
-reads_comparison c l = comparison-reads c.left c.relation c.relation_at c.right l (reads_e c.left l) (reads_e c.right l)
+reads_comparison c l = comparison_reads c.left c.relation c.relation_at c.right l (reads_e c.left l) (reads_e c.right l)
 
 abbrev AfterConjunction : List Token → Type 0
 AfterConjunction us = AfterExpr us × Not sym.And us
@@ -66,10 +66,10 @@ single_reads c l r = record { need = suc r.need; reads = go }
         let a = r.reads m us (omega arith) f.0 in
         rw (a, f.1) refl
 
-both-reads :
+both_reads :
     (c : Comparison) (p : At) (k : Conjunction) (l : ℕ) → Reads p_comparison (spelling.comparison keep c l) c AfterExpr → Reads p_conjunction (spelling.conjunction keep k l) k AfterConjunction →
     Reads p_conjunction (spelling.conjunction keep (both c p k) l) (both c p k) AfterConjunction
-both-reads c p k l r s = record { need = suc (max r.need s.need); reads = go }
+both_reads c p k l r s = record { need = suc (max r.need s.need); reads = go }
   where
     go : (n : ℕ) (us : List Token) → suc (max r.need s.need) ≤ n → AfterConjunction us → p_conjunction n (spelling.conjunction keep (both c p k) l ++ us) ≡ took (both c p k) us
     go zero us h f = absurd (omega arith)
@@ -82,7 +82,7 @@ both-reads c p k l r s = record { need = suc (max r.need s.need); reads = go }
 
 reads_conjunction : (k : Conjunction) (l : ℕ) → Reads p_conjunction (spelling.conjunction keep k l) k AfterConjunction
 reads_conjunction (single c) l = single_reads c l (reads_comparison c l)
-reads_conjunction (both c p k) l = both-reads c p k l (reads_comparison c l) (reads_conjunction k l)
+reads_conjunction (both c p k) l = both_reads c p k l (reads_comparison c l) (reads_conjunction k l)
 
 only_reads : (k : Conjunction) (l : ℕ) → Reads p_conjunction (spelling.conjunction keep k l) k AfterConjunction → Reads p_condition (spelling.condition keep (only k) l) (only k) AfterCondition
 only_reads k l r = record { need = suc r.need; reads = go }
@@ -93,10 +93,10 @@ only_reads k l r = record { need = suc r.need; reads = go }
         let a = r.reads m us (omega arith) f.0 in
         rw (a, f.1) refl
 
-either-reads :
+either_reads :
     (k : Conjunction) (p : At) (c : Condition) (l : ℕ) → Reads p_conjunction (spelling.conjunction keep k l) k AfterConjunction → Reads p_condition (spelling.condition keep c l) c AfterCondition →
     Reads p_condition (spelling.condition keep (either k p c) l) (either k p c) AfterCondition
-either-reads k p c l r s = record { need = suc (max r.need s.need); reads = go }
+either_reads k p c l r s = record { need = suc (max r.need s.need); reads = go }
   where
     go : (n : ℕ) (us : List Token) → suc (max r.need s.need) ≤ n → AfterCondition us → p_condition n (spelling.condition keep (either k p c) l ++ us) ≡ took (either k p c) us
     go zero us h f = absurd (omega arith)
@@ -109,7 +109,7 @@ either-reads k p c l r s = record { need = suc (max r.need s.need); reads = go }
 
 reads_condition : (c : Condition) (l : ℕ) → Reads p_condition (spelling.condition keep c l) c AfterCondition
 reads_condition (only k) l = only_reads k l (reads_conjunction k l)
-reads_condition (either k p c) l = either-reads k p c l (reads_conjunction k l) (reads_condition c l)
+reads_condition (either k p c) l = either_reads k p c l (reads_conjunction k l) (reads_condition c l)
 
 -- what statements begin with
 named_first : (us : List Token) → front us ≡ a_name → begins_statement (front us) ≡ true
@@ -205,10 +205,10 @@ step_reads d o p q l = record { need = suc (reads_d d l l).need; reads = go o }
         rw (w, c, a) refl
 
 -- the condition of an `if` or `while`, with the parenthesis behind it
-head-reads :
+head_reads :
     (c : Condition) (r : At) (l m : ℕ) (us : List Token) → (reads_condition c l).need ≤ m →
     p_condition m (spelling.condition keep c l ++ spelling.sign keep 0 sym.CloseParenthesis r ∷ us) ≡ took c (spelling.sign keep 0 sym.CloseParenthesis r ∷ us)
-head-reads c r l m us h = (reads_condition c l).reads m (spelling.sign keep 0 sym.CloseParenthesis r ∷ us) h (((((refl, refl), refl, refl, refl), refl, refl), refl), refl)
+head_reads c r l m us h = (reads_condition c l).reads m (spelling.sign keep 0 sym.CloseParenthesis r ∷ us) h (((((refl, refl), refl, refl, refl), refl, refl), refl), refl)
 
 when_reads : (p q : At) (c : Condition) (r : At) (s : Statement) (l : ℕ) → ReadsS s (suc l) → ReadsS (when p q c r s) l
 when_reads p q c r s l x = record { need = suc (max (reads_condition c l).need x.need); reads = go }
@@ -216,7 +216,7 @@ when_reads p q c r s l x = record { need = suc (max (reads_condition c l).need x
     go : At-depth (when p q c r s) l (suc (max (reads_condition c l).need x.need))
     go zero us h f = absurd (omega arith)
     go (suc m) us h f =
-        let a = head-reads c r l m (spelling.statement keep s (suc l) ++ us) (omega arith) in
+        let a = head_reads c r l m (spelling.statement keep s (suc l) ++ us) (omega arith) in
         let b = x.reads m us (omega arith) (λ _. f refl) in
         let g = f refl in
         simp append_assoc (rw (a, b, g) refl)
@@ -231,7 +231,7 @@ choose_reads p q c r s y t l k x z = record { need = suc (max (reads_condition c
     go zero us h f = absurd (omega arith)
     go (suc m) us h f =
         let v = spelling.sign keep 0 sym.Else y ∷ (spelling.statement keep t (suc l) ++ us) in
-        let a = head-reads c r l m (spelling.statement keep s (suc l) ++ v) (omega arith) in
+        let a = head_reads c r l m (spelling.statement keep s (suc l) ++ v) (omega arith) in
         let b = x.reads m v (omega arith) (shut v) in
         let d = z.reads m us (omega arith) f in
         simp append_assoc (rw (a, b, d) refl)
@@ -242,7 +242,7 @@ while_reads p q c r s l x = record { need = suc (max (reads_condition c l).need 
     go : At-depth (while p q c r s) l (suc (max (reads_condition c l).need x.need))
     go zero us h f = absurd (omega arith)
     go (suc m) us h f =
-        let a = head-reads c r l m (spelling.statement keep s (suc l) ++ us) (omega arith) in
+        let a = head_reads c r l m (spelling.statement keep s (suc l) ++ us) (omega arith) in
         let b = x.reads m us (omega arith) f in
         simp append_assoc (rw (a, b) refl)
 

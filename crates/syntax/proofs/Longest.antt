@@ -101,10 +101,10 @@ only_operators b [] (suc (suc n)) d e s h = sym (class_is d (b ∷ []) h) ∙ e
 only_operators b (c ∷ cs) (suc zero) d e s h = sym (class_is d (b ∷ []) h) ∙ e
 only_operators b (c ∷ cs) (suc (suc n)) d e s h = sym (class_is d (b ∷ c ∷ take n cs) h) ∙ cond-false (is comment (b ∷ c ∷ take n cs)) comment (by_first b) (and_left _ _ (and_true _ s)) ∙ e
 
-pub operator-longest :
+pub operator_longest :
     (b : ℕ) (bs : List ℕ) (k : ℕ) → by_first b ≡ operator → is comment (take 2 (b ∷ bs)) ≡ false → k ≤ length (b ∷ bs) → is operator (take k (b ∷ bs)) ≡ true →
     (k < 2 → 2 ≤ length (b ∷ bs) → is operator (take 2 (b ∷ bs)) ≡ false) → 0 < k → Longest (b ∷ bs) (lexeme operator k)
-operator-longest b bs k e s w h two some = record {
+operator_longest b bs k e s w h two some = record {
   within = w;
   lexeme = h;
   longest = λ n d l g. no_from _ (λ i. longer n l g (subst (λ (x : Class). is x (take n (b ∷ bs)) ≡ true) (only_operators b bs n d e s i) i));
@@ -116,10 +116,10 @@ operator-longest b bs k e s w h two some = record {
         let n-two : n ≡ 2 = omega (arith, length-take-le n (b ∷ bs) g) in
         both_ways _ (two (omega arith) (omega arith)) (subst (λ (m : ℕ). is operator (take m (b ∷ bs)) ≡ true) n-two i)
 
-pub operator-none :
+pub operator_none :
     (b : ℕ) (bs : List ℕ) → by_first b ≡ operator → is comment (take 2 (b ∷ bs)) ≡ false → is operator (b ∷ []) ≡ false →
     (2 ≤ length (b ∷ bs) → is operator (take 2 (b ∷ bs)) ≡ false) → NoLexeme (b ∷ bs)
-operator-none b bs e s one two n d g = no_from _ (λ i. none n g (subst (λ (x : Class). is x (take n (b ∷ bs)) ≡ true) (only_operators b bs n d e s i) i))
+operator_none b bs e s one two n d g = no_from _ (λ i. none n g (subst (λ (x : Class). is x (take n (b ∷ bs)) ≡ true) (only_operators b bs n d e s i) i))
   where
     none : (n : ℕ) → n ≤ length (b ∷ bs) → is operator (take n (b ∷ bs)) ≡ true → ⊥
     none zero g i = both_ways _ refl i
@@ -139,9 +139,9 @@ not_both a x c d h i =
     let backslash : x ≡ 92 = eqb-true x 92 (and_parts _ _ (and_parts _ _ (quoted_some _ _ i)).0).1 in
     both_ways _ refl (subst (λ (y : ℕ). is_some (plain y) ≡ true) backslash (quoted_value _ _ h))
 
-pub constant-longest :
+pub constant_longest :
     (b : ℕ) (bs : List ℕ) (k : ℕ) → eqb b 39 ≡ true → k ≤ length (b ∷ bs) → is quotation (take k (b ∷ bs)) ≡ true → Longest (b ∷ bs) (lexeme quotation k)
-constant-longest b bs k e w h = record {
+constant_longest b bs k e w h = record {
   within = w;
   lexeme = h;
   longest = λ n d l g. no_from _ (λ i. longer n l g (subst (λ (x : Class). is x (take n (b ∷ bs)) ≡ true) (only_constants b bs n d e i) i));
@@ -162,10 +162,10 @@ constant-longest b bs k e w h = record {
         let n-four : n ≡ 4 = omega arith in
         three_four (b ∷ bs) (omega arith) (subst (λ (m : ℕ). is quotation (take m (b ∷ bs)) ≡ true) k-three h) (subst (λ (m : ℕ). is quotation (take m (b ∷ bs)) ≡ true) n-four i)
 
-pub constant-none :
+pub constant_none :
     (b : ℕ) (bs : List ℕ) → eqb b 39 ≡ true → (3 ≤ length (b ∷ bs) → is quotation (take 3 (b ∷ bs)) ≡ false) → (4 ≤ length (b ∷ bs) → is quotation (take 4 (b ∷ bs)) ≡ false) →
     NoLexeme (b ∷ bs)
-constant-none b bs e three four n d g = no_from _ (λ i. none n g (subst (λ (x : Class). is x (take n (b ∷ bs)) ≡ true) (only_constants b bs n d e i) i))
+constant_none b bs e three four n d g = no_from _ (λ i. none n g (subst (λ (x : Class). is x (take n (b ∷ bs)) ≡ true) (only_constants b bs n d e i) i))
   where
     none : (n : ℕ) → n ≤ length (b ∷ bs) → is quotation (take n (b ∷ bs)) ≡ true → ⊥
     none n g i =

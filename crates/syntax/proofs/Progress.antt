@@ -24,11 +24,11 @@ unfolding taken
 taken_more [] text rest l c = append-nil (take l.size text) ∙ ap (take l.size) c
 taken_more (m ∷ ls) text rest l c = ap (λ (r : List ℕ). take m.size text ++ r) (taken_more ls (drop m.size text) rest l c.2) ∙ sym (append_assoc (take m.size text) _ _)
 
-cut-more :
+cut_more :
     (ls : List Lexeme) (text rest : List ℕ) (l : Lexeme) → Cut ls text rest → Longest rest l → Fits (token_of l.class (take l.size rest)) → Cut (ls ++ l ∷ []) text (drop l.size rest)
-cut-more [] text rest l c h f =
+cut_more [] text rest l c h f =
     (subst (λ (r : List ℕ). Longest r l) (sym c) h, subst (λ (r : List ℕ). Fits (token_of l.class (take l.size r))) (sym c) f, ap (drop l.size) c)
-cut-more (m ∷ ls) text rest l c h f = (c.0, c.1, cut-more ls (drop m.size text) rest l c.2 h f)
+cut_more (m ∷ ls) text rest l c h f = (c.0, c.1, cut_more ls (drop m.size text) rest l c.2 h f)
 
 pub behind_append : (p : Position) (bs cs : List ℕ) → behind p (bs ++ cs) ≡ behind (behind p bs) cs
 behind_append p [] cs = refl
@@ -38,16 +38,16 @@ before_append : (k : Option TokenKind) (p : Position) (ts us : List Token) → b
 before_append None p ts us = refl
 before_append (Some k) p ts us = refl
 
-tokens-more :
+tokens_more :
     (ls : List Lexeme) (p : Position) (text rest : List ℕ) (l : Lexeme) → Cut ls text rest →
     tokens (ls ++ l ∷ []) p text ≡ tokens ls p text ++ before (token_of l.class (take l.size rest)) (behind p (taken ls text)) []
 unfolding taken
-tokens-more [] p text rest l c = ap (λ (r : List ℕ). before (token_of l.class (take l.size r)) p []) c
-tokens-more (m ∷ ls) p text rest l c =
+tokens_more [] p text rest l c = ap (λ (r : List ℕ). before (token_of l.class (take l.size r)) p []) c
+tokens_more (m ∷ ls) p text rest l c =
     let w = take m.size text in
     let k = token_of m.class w in
     let more = drop m.size text in
-    ap (before k p) (tokens-more ls (behind p w) more rest l c.2) ∙
+    ap (before k p) (tokens_more ls (behind p w) more rest l c.2) ∙
     before_append k p (tokens ls (behind p w) more) _ ∙
     ap (λ (q : Position). before k p (tokens ls (behind p w) more) ++ before (token_of l.class (take l.size rest)) q []) (sym (behind_append p w (taken ls more)))
 
@@ -63,17 +63,17 @@ unfolding taken
 no_progress text = record { lexemes = []; cut = refl; are = refl; place = refl }
 
 -- one more lexeme
-pub progress-more :
+pub progress_more :
     (text : List ℕ) (ts : List Token) (p : Position) (rest : List ℕ) (l : Lexeme) → Progress text ts p rest → Longest rest l → Fits (token_of l.class (take l.size rest)) →
     Progress text (ts ++ before (token_of l.class (take l.size rest)) p []) (behind p (take l.size rest)) (drop l.size rest)
-progress-more text ts p rest l g h f =
+progress_more text ts p rest l g h f =
     let token : Position → List Token = λ q. before (token_of l.class (take l.size rest)) q [] in
     record {
       lexemes = g.lexemes ++ l ∷ [];
-      cut = cut-more g.lexemes text rest l g.cut h f;
+      cut = cut_more g.lexemes text rest l g.cut h f;
       are =
           ap (λ (us : List Token). us ++ token p) g.are ∙ ap (λ (q : Position). tokens g.lexemes start text ++ token q) g.place ∙
-          sym (tokens-more g.lexemes start text rest l g.cut);
+          sym (tokens_more g.lexemes start text rest l g.cut);
       place =
           ap (λ (q : Position). behind q (take l.size rest)) g.place ∙ sym (behind_append start (taken g.lexemes text) (take l.size rest)) ∙
           ap (behind start) (sym (taken_more g.lexemes text rest l g.cut));

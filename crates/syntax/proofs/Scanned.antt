@@ -12,7 +12,7 @@ use Rattle.syntax.specs.Scanning.{Fits, before, Cuts, RefusedByScan, long, no_to
 use Rattle.syntax.proofs.Best.{front, constant_at, operator_at, quote_at, sign_at, best_of, best, best_longest, best_none}
 use Rattle.syntax.proofs.Classes.{number_class}
 use Rattle.syntax.proofs.Longest.{lexeme}
-use Rattle.syntax.proofs.Progress.{Progress, no_progress, progress-more, progress_cuts, up_to, lexeme_some}
+use Rattle.syntax.proofs.Progress.{Progress, no_progress, progress_more, progress_cuts, up_to, lexeme_some}
 
 abbrev pub Answer : Type 0
 Answer = Result (List Token) Fault
@@ -105,12 +105,12 @@ module _ (text : List ℕ) (short : length text ≤ 65536) where
   scanned_with_token ts k p (Err f) h = h
 
   module _ (scan : Position → List ℕ → Answer) (n : ℕ) (right : (ts : List Token) (p : Position) (bs : List ℕ) → length bs ≤ n → Progress text ts p bs → ScannedAs text (behind_tokens ts (scan p bs))) where
-    from-lexeme :
+    scanned_from_lexeme :
         (o : Option Lexeme) (ts : List Token) (p : Position) (bs : List ℕ) → best bs ≡ o → 0 < length bs → length bs ≤ suc n → Progress text ts p bs →
         ScannedAs text (behind_tokens ts (from_lexeme scan o p bs))
     unfolding from_lexeme behind_lexeme
-    from-lexeme None ts p bs e some fuel g = no_token p bs (up_to text ts p bs short g) some (best_none bs e)
-    from-lexeme (Some l) ts p bs e some fuel g = by (fitting (token_of l.class (take l.size bs))) refl
+    scanned_from_lexeme None ts p bs e some fuel g = no_token p bs (up_to text ts p bs short g) some (best_none bs e)
+    scanned_from_lexeme (Some l) ts p bs e some fuel g = by (fitting (token_of l.class (take l.size bs))) refl
       where
         by : (t : Bool) → fitting (token_of l.class (take l.size bs)) ≡ t →
             ScannedAs text (behind_tokens ts (behind_lexeme scan t (token_of l.class (take l.size bs)) p (take l.size bs) (drop l.size bs)))
@@ -118,7 +118,7 @@ module _ (text : List ℕ) (short : length text ≤ 65536) where
             let h = best_longest bs l e in
             scanned_with_token ts _ p _
             (right (ts ++ before (token_of l.class (take l.size bs)) p []) (behind p (take l.size bs)) (drop l.size bs) (omega (arith, length-drop l.size bs, lexeme_some bs l h))
-            (progress-more text ts p bs l g h (fitting_fits _ f)))
+            (progress_more text ts p bs l g h (fitting_fits _ f)))
         by false f = too_large ts p bs l g (best_longest bs l e) f
 
   answered_from : (n : ℕ) (ts : List Token) (p : Position) (bs : List ℕ) → length bs ≤ n → Progress text ts p bs → ScannedAs text (behind_tokens ts (answer_from n p bs))
@@ -126,7 +126,7 @@ module _ (text : List ℕ) (short : length text ≤ 65536) where
   answered_from zero ts p [] fuel g = at_end ts p g
   answered_from zero ts p (b ∷ bs) fuel g = absurd (omega arith)
   answered_from (suc n) ts p [] fuel g = at_end ts p g
-  answered_from (suc n) ts p (b ∷ bs) fuel g = from-lexeme (λ q cs. answer_from n q cs) n (answered_from n) (best (b ∷ bs)) ts p (b ∷ bs) refl (omega arith) fuel g
+  answered_from (suc n) ts p (b ∷ bs) fuel g = scanned_from_lexeme (λ q cs. answer_from n q cs) n (answered_from n) (best (b ∷ bs)) ts p (b ∷ bs) refl (omega arith) fuel g
 
 nothing_before : (text : List ℕ) (r : Answer) → ScannedAs text (behind_tokens [] r) → ScannedAs text r
 nothing_before text (Ok us) h = h

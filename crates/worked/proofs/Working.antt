@@ -54,10 +54,10 @@ within (n ∷ ns) h zero = leb-true n 64 (split (leb n 64) (all_within ns) h).0
 within (n ∷ ns) h (suc k) = within ns (split (leb n 64) (all_within ns) h).1 k
 
 -- what is computed of a text is what it stands for
-pub worked-out :
+pub worked_out :
     (text : List ℕ) → scanned text ≡ Some (tokens_of text) → tokens_of text ≡ spell (tree_of text) → tree.nearest_in (tree_of text).methods ≡ true → all_within (levels (tree_of text)) ≡ true →
     resolved (tree_of text) ≡ Ok (program_of text) → StandsFor text (program_of text)
-worked-out text s e n l r =
+worked_out text s e n l r =
     record {
       tokens = tokens_of text;
       cut = scanned_cuts text (tokens_of text) s;

@@ -63,7 +63,7 @@ pub record WorkedSamples : Type 0 where
   -- arithmetic wraps around
   pub wrapping : Sample (codes "class P int a; { void main() { a = (0-2147483647-1)/(0-1); } }") (limits 1 2 32) (ended Finished (negsuc 2147483647 ∷ []) ∷ [])
   -- a char keeps its word, but for the low 8 bits in an array
-  pub wide-chars :
+  pub wide_chars :
       Sample (codes "class P char c, d[]; int i, j; { void main() { c = chr(300); i = ord(c); d = new char[1]; d[0] = c; j = ord(d[0]); } }") (limits 3 2 34)
       (ended Finished (pos 300 ∷ pos 1 ∷ pos 300 ∷ pos 44 ∷ []) ∷ [])
   -- blanks stand before a value up to its width

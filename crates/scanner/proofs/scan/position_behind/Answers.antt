@@ -1,7 +1,7 @@
 use Rattle.std.proofs.Common.{ℕ, ◌+◌, drop, sym, refl, ap, ◌∙◌, arith}
 use Rattle.std.proofs.lemmas.List.{at_drop_all}
 use Rattle.syntax.specs.Tokens.{behind}
-use Rattle.scanner.proofs.Places.{at, behind-line, behind-column}
+use Rattle.scanner.proofs.Places.{at, behind_line, behind_column}
 use Rattle.scanner.proofs.scan.position_behind.Goals as goal
 use Rattle.scanner.proofs.scan.position_behind.Goals.{then-byte-eq10, else-byte-eq10}
 
@@ -15,13 +15,13 @@ loop-byte-preserved c =
     elim c.if-byte-eq10.branch [
       | then-byte-eq10 w ↦ (
         ap (λ (k : ℕ). behind (at c.if-byte-eq10.line k) rest) w.column-is ∙
-            behind-line c.loop-byte.line c.loop-byte.column c.if-byte-eq10.line bytes c.loop-byte.byte-index c.loop-byte-test.true w.if-byte-eq10.true w.line-is ∙ c.loop-byte.invariant.0,
+            behind_line c.loop-byte.line c.loop-byte.column c.if-byte-eq10.line bytes c.loop-byte.byte-index c.loop-byte-test.true w.if-byte-eq10.true w.line-is ∙ c.loop-byte.invariant.0,
         omega (arith, w.line-is),
         omega (arith, w.column-is),
       )
       | else-byte-eq10 w ↦ (
         ap (λ (k : ℕ). behind (at k c.if-byte-eq10.column) rest) w.line-is ∙
-            behind-column c.loop-byte.line c.loop-byte.column c.if-byte-eq10.column bytes c.loop-byte.byte-index c.loop-byte-test.true w.if-byte-eq10.false w.column-is ∙ c.loop-byte.invariant.0,
+            behind_column c.loop-byte.line c.loop-byte.column c.if-byte-eq10.column bytes c.loop-byte.byte-index c.loop-byte-test.true w.if-byte-eq10.false w.column-is ∙ c.loop-byte.invariant.0,
         omega (arith, w.line-is),
         omega (arith, w.column-is),
       )

@@ -7,7 +7,7 @@ use Rattle.syntax.specs.Borrowed.{tokens_meant}
 use Rattle.syntax.specs.Scanning.{long}
 use Rattle.scanner.specs.Steps.{Taken}
 use Rattle.syntax.proofs.Progress.{Progress, no_progress, progress_cuts, progress_ends}
-use Rattle.scanner.proofs.Stepping.{step-progress, step_room, step_shorter, step-refused}
+use Rattle.scanner.proofs.Stepping.{step_progress, step_room, step_shorter, step_refused}
 use Rattle.scanner.proofs.scan.scan.Goals as goal
 
 pub returns-then-text-gt-LONGEST_TEXT : goal.returns-then-text-gt-LONGEST_TEXT
@@ -28,7 +28,7 @@ returns-in_err-token c =
     rw (p.1, p.2) (
     record {
       scanned =
-          step-refused c.args.text.now (tokens_meant (vec_items c.loop-scanner.tokens)) c.loop-scanner.scanner.position c.loop-scanner.scanner.rest.now c.in_err-token.field-0.0
+          step_refused c.args.text.now (tokens_meant (vec_items c.loop-scanner.tokens)) c.loop-scanner.scanner.position c.loop-scanner.scanner.rest.now c.in_err-token.field-0.0
           c.if-text-gt-LONGEST_TEXT.false c.loop-scanner.invariant.0 c.loop-scanner-test.true c.in_err-token.ensures;
       end = tt;
       capacity = c.loop-scanner.invariant.2 ∙ c.clear.ensures.capacity;
@@ -42,7 +42,7 @@ loop-scanner-preserved-in-Some c =
     let s = c.loop-scanner.scanner in
     let t = c.next.new.self in
     let step = subst (Taken s t) c.in-Some.is c.in_ok-token.ensures in (
-      step-progress c.args.text.now (vec_items c.loop-scanner.tokens) (vec_items c.push_reserved.new.self) s t _ c.loop-scanner.invariant.0 step c.push_reserved.ensures.items,
+      step_progress c.args.text.now (vec_items c.loop-scanner.tokens) (vec_items c.push_reserved.new.self) s t _ c.loop-scanner.invariant.0 step c.push_reserved.ensures.items,
       step_room s t _ step c.loop-scanner.invariant.1,
       cc (c.push_reserved.ensures.capacity, c.loop-scanner.invariant.2),
       omega (arith, step_shorter s t _ step, c.push_reserved.ensures.len, c.loop-scanner.invariant.3),
@@ -56,7 +56,7 @@ loop-scanner-preserved c =
     let s = c.loop-scanner.scanner in
     let t = c.next.new.self in
     let step = subst (Taken s t) c.in_default.is c.in_ok-token.ensures in (
-      step-progress c.args.text.now (vec_items c.loop-scanner.tokens) (vec_items c.loop-scanner.tokens) s t _ c.loop-scanner.invariant.0 step (sym (append-nil _)),
+      step_progress c.args.text.now (vec_items c.loop-scanner.tokens) (vec_items c.loop-scanner.tokens) s t _ c.loop-scanner.invariant.0 step (sym (append-nil _)),
       step_room s t _ step c.loop-scanner.invariant.1,
       c.loop-scanner.invariant.2,
       omega (arith, step_shorter s t _ step, c.loop-scanner.invariant.3),
