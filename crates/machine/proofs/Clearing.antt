@@ -1,5 +1,5 @@
 -- The elements of a new array.
-use Rattle.std.proofs.Common.{◌≡◌, ℕ, zero, suc, ◌+◌, ◌-◌, ◌/◌, ◌%◌, ◌^◌, ◌<◌, ◌≤◌, cond, ltb, leb, List, ◌∷◌, ◌++◌, length, get_or, take, drop, replicate, ℤ, pos, refl, ap, ◌∙◌, subst, arith}
+use Rattle.std.proofs.Common.{◌≡◌, ℕ, zero, suc, ◌+◌, ◌-◌, ◌%◌, ◌^◌, ◌<◌, ◌≤◌, cond, ltb, leb, List, ◌∷◌, ◌++◌, length, get_or, take, drop, replicate, ℤ, pos, refl, ap, ◌∙◌, subst, arith}
 use native.Mathlib.Nat.{zero-div}
 use lib.Signed.{lt_z}
 use Rattle.std.proofs.lemmas.List.{length-take, length-replicate, get_or_append_left, get_or-append_right, get_or-replicate}
@@ -7,7 +7,7 @@ use Rattle.std.proofs.lemmas.Bool.{cond-true, lt-ltb, le-leb}
 use Rattle.outcomes.specs.declared.Verdict.TheVariants.{IndexOutOfRange}
 use Rattle.words.specs.declared.printing.Kind.{Kind}
 use Rattle.words.specs.declared.printing.Kind.TheVariants.{Int, Char}
-use Rattle.step.specs.State.{State, Step, ends}
+use Rattle.step.specs.State.{Step, ends}
 use Rattle.step.specs.Stacks.{word_at}
 use Rattle.step.specs.Arrays.{array_words, element_word, element_in, over, used, element}
 use Rattle.machine.specs.Laws.{NewArraysAreCleared}

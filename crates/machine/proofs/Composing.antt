@@ -1,5 +1,5 @@
 -- A run in two parts.
-use Rattle.std.proofs.Common.{◌≡◌, ℕ, zero, suc, ◌+◌, List, Some, None, Option, sym, refl, ap, ◌∙◌, add-zero, add-suc}
+use Rattle.std.proofs.Common.{◌≡◌, ℕ, zero, suc, ◌+◌, List, Some, None, Option, refl, ap, ◌∙◌, add-zero, add-suc}
 use Rattle.machine.specs.Runs.{Scene, onward, after}
 use Rattle.machine.specs.Laws.{after_more}
 

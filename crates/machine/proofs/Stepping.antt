@@ -1,5 +1,5 @@
 -- One turn more: the steps of a run, what it exchanges with its console, and that it stays sound.
-use Rattle.std.proofs.Common.{◌≡◌, ℕ, zero, suc, ◌+◌, ◌-◌, ◌<◌, ◌≤◌, Bool, true, false, cond, leb, List, [], ◌∷◌, ◌++◌, length, ℤ, Some, None, Ok, Err, Option, Result, sym, refl, ap, ◌∙◌, subst, append_assoc, append-nil, add-one, arith, length-append}
+use Rattle.std.proofs.Common.{◌≡◌, ℕ, ◌+◌, ◌-◌, ◌<◌, ◌≤◌, Bool, true, false, cond, leb, List, [], ◌∷◌, ◌++◌, length, ℤ, Some, Ok, Err, Result, sym, refl, ap, ◌∙◌, subst, append_assoc, append-nil, add-one, arith, length-append}
 use Rattle.std.proofs.lemmas.Bool.{leb-true}
 use Rattle.outcomes.specs.declared.Pause.{Pause}
 use Rattle.outcomes.specs.declared.Pause.TheVariants.{Input, Output}
@@ -13,7 +13,7 @@ use Rattle.step.specs.Sound.{Sound}
 use Rattle.step.proofs.Soundness.{Keeps, step_keeps}
 use Rattle.machine.specs.declared.turn.Halt.{Halt}
 use Rattle.machine.specs.declared.turn.Halt.TheVariants.{Ended, Paused}
-use Rattle.machine.specs.Runs.{View, view, Scene, scene, Turn, goes, pauses, stops, with_word, with_bytes, turn_of, turn, made, onward, after, Exchanged, Led}
+use Rattle.machine.specs.Runs.{View, view, Scene, scene, goes, pauses, stops, with_word, turn_of, turn, made, onward, after, Exchanged, Led}
 use Rattle.machine.specs.Turns.{Turned, TurnedAt, step_of, Wanted, Halted}
 
 no_pause : {P : Type 0} (p : Pause) (t : Scene) → pauses p ≡ goes t → P

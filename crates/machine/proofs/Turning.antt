@@ -1,9 +1,9 @@
 -- A word taken, and bytes written, as a turn.
-use Rattle.std.proofs.Common.{◌≡◌, ℕ, ◌+◌, ◌-◌, true, cond, leb, List, [], ◌∷◌, ◌++◌, length, ℤ, sym, refl, ap, ◌∙◌, arith}
+use Rattle.std.proofs.Common.{◌≡◌, ℕ, ◌+◌, ◌-◌, true, cond, leb, List, ◌∷◌, ◌++◌, length, ℤ, sym, ap, ◌∙◌, arith}
 use Rattle.std.proofs.lemmas.Bool.{le-leb}
 use Rattle.outcomes.specs.declared.Pause.TheVariants.{Output}
 use Rattle.step.specs.State.{State}
-use Rattle.machine.specs.Runs.{View, view, Scene, scene, Turn, goes, pauses, with_word, with_bytes}
+use Rattle.machine.specs.Runs.{view, scene, goes, pauses, with_word, with_bytes}
 
 pub word_taken : (f : ℤ → State) (ws ws' : List ℤ) (bs bs' : List ℕ) (n n' : ℕ) (w : ℤ) (t : State) → ws ≡ w ∷ ws' → bs' ≡ bs → n' ≡ n → t ≡ f w → with_word f (view ws bs n) ws ≡ goes (scene t (view ws' bs' n'))
 word_taken f ws ws' bs bs' n n' w t e b r s =

@@ -10,7 +10,7 @@ use Rattle.step.specs.declared.registers.Registers.{Registers}
 use Rattle.machine.specs.declared.machine.Machine.{Machine}
 use Rattle.machine.specs.declared.machine.Progress.{Progress}
 use Rattle.machine.specs.declared.machine.Progress.TheVariants.{Ended, Paused, Refused}
-use Rattle.machine.specs.Runs.{View, Scene, scene, Turn, pauses, stops, turn, Led}
+use Rattle.machine.specs.Runs.{View, Scene, scene, pauses, stops, turn, Led}
 use Rattle.machine.specs.Machines.{Stores, lengths_of, Suffices, cleared, state_with, state_in, Begins, Ready}
 
 -- start: a machine in cleared stores, or 16 exactly if a length does not suffice, with nothing changed

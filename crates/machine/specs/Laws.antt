@@ -5,7 +5,7 @@ use Rattle.words.specs.declared.printing.Kind.{Kind}
 use Rattle.step.specs.State.{State, state, Step}
 use Rattle.step.specs.Stacks.{word_at}
 use Rattle.step.specs.Arrays.{array_words, element_in, element, new_array}
-use Rattle.machine.specs.Runs.{View, view, Scene, scene, Turn, stops, turn, after}
+use Rattle.machine.specs.Runs.{view, Scene, scene, stops, turn, after}
 
 -- n steps more, from where others led
 abbrev pub after_more : ℕ → List ℕ → Option Scene → Option Scene

@@ -1,7 +1,7 @@
 -- Runs: one step after another, beside a console.
-use Rattle.std.specs.Prelude.{◌≡◌, ℕ, zero, suc, ◌+◌, ◌-◌, ◌<◌, cond, List, [], ◌∷◌, ◌++◌, length, ℤ, Some, None, Option, nat_le}
+use Rattle.std.specs.Prelude.{◌≡◌, ℕ, zero, suc, ◌+◌, ◌-◌, cond, List, [], ◌∷◌, ◌++◌, length, ℤ, Some, None, Option, nat_le}
 use Rattle.outcomes.specs.declared.Pause.{Pause}
-use Rattle.outcomes.specs.declared.Pause.TheVariants.{Budget, Input, Output}
+use Rattle.outcomes.specs.declared.Pause.TheVariants.{Input, Output}
 use Rattle.outcomes.specs.declared.Verdict.{Verdict}
 use Rattle.step.specs.State.{State, Step, moves, takes, writes, ends}
 use Rattle.step.specs.Perform.{step}

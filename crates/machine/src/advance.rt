@@ -33,8 +33,8 @@ fn drive<C: Console>(
     requires sound { Sound (state r.old «data».old heap.old call.old operand.old) }
     requires short { length code.now ≤ 8192 }
     ensures drove { Drove result code.now budget
-        (scene (state r.old «data».old heap.old call.old operand.old) (view (waiting console.old) (written console.old) (room console.old)))
-        (scene (state r.new «data».new heap.new call.new operand.new) (view (waiting console.new) (written console.new) (room console.new))) }
+        (scene (state r.old «data».old heap.old call.old operand.old) (view (C.waiting console.old) (C.written console.old) (C.room console.old)))
+        (scene (state r.new «data».new heap.new call.new operand.new) (view (C.waiting console.new) (C.written console.new) (C.room console.new))) }
     ensures sound { Sound (state r.new «data».new heap.new call.new operand.new) }
 {
     let mut steps: u64 = 0;
@@ -69,8 +69,8 @@ pub fn advance<'a, C: Console>(
 ) -> Progress<'a>
     requires { Ready machine }
     ensures { AdvancedAs result machine.entry budget
-        (stores «data».old heap.old call.old operand.old) (view (waiting console.old) (written console.old) (room console.old))
-        (stores «data».new heap.new call.new operand.new) (view (waiting console.new) (written console.new) (room console.new)) }
+        (stores «data».old heap.old call.old operand.old) (view (C.waiting console.old) (C.written console.old) (C.room console.old))
+        (stores «data».new heap.new call.new operand.new) (view (C.waiting console.new) (C.written console.new) (C.room console.new)) }
 {
     let lengths = Lengths {
         data: data.len(),

@@ -28,8 +28,8 @@ fn read<C: Console>(
 ) -> Result<(), Halt>
     requires { r.old.height < length operand.old }
     ensures { Read result kind next
-        r.old operand.old (view (waiting console.old) (written console.old) (room console.old))
-        r.new operand.new (view (waiting console.new) (written console.new) (room console.new)) }
+        r.old operand.old (view (C.waiting console.old) (C.written console.old) (C.room console.old))
+        r.new operand.new (view (C.waiting console.new) (C.written console.new) (C.room console.new)) }
 {
     if console.words_waiting() == 0 {
         return Err(Halt::Paused(Pause::Input));
@@ -54,8 +54,8 @@ fn print<C: Console>(
 ) -> Result<(), Halt>
     requires { 2 ≤ r.old.height }
     ensures { Printed result kind value width next
-        r.old (view (waiting console.old) (written console.old) (room console.old))
-        r.new (view (waiting console.new) (written console.new) (room console.new)) }
+        r.old (view (C.waiting console.old) (C.written console.old) (C.room console.old))
+        r.new (view (C.waiting console.new) (C.written console.new) (C.room console.new)) }
 {
     let text = printed(kind, value, width);
     let bytes = text.as_bytes();
@@ -80,8 +80,8 @@ fn exchange<C: Console>(
 ) -> Result<(), Halt>
     requires { Wanted effect r.old operand.old }
     ensures { ExchangedAs result effect
-        r.old operand.old (view (waiting console.old) (written console.old) (room console.old))
-        r.new operand.new (view (waiting console.new) (written console.new) (room console.new)) }
+        r.old operand.old (view (C.waiting console.old) (C.written console.old) (C.room console.old))
+        r.new operand.new (view (C.waiting console.new) (C.written console.new) (C.room console.new)) }
 {
     match effect {
         Effect::Moved => Ok(()),
@@ -108,8 +108,8 @@ pub(crate) fn turn<C: Console>(
     requires sound { Sound (state r.old «data».old heap.old call.old operand.old) }
     requires short { length code.now ≤ 8192 }
     ensures { TurnedAt result code.now
-        (scene (state r.old «data».old heap.old call.old operand.old) (view (waiting console.old) (written console.old) (room console.old)))
-        (scene (state r.new «data».new heap.new call.new operand.new) (view (waiting console.new) (written console.new) (room console.new))) }
+        (scene (state r.old «data».old heap.old call.old operand.old) (view (C.waiting console.old) (C.written console.old) (C.room console.old)))
+        (scene (state r.new «data».new heap.new call.new operand.new) (view (C.waiting console.new) (C.written console.new) (C.room console.new))) }
 {
     match step(code, r, data, heap, call, operand) {
         Ok(effect) => exchange(effect, r, operand, console),

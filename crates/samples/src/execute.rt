@@ -50,8 +50,8 @@ fn drive<C: Console>(
     requires ready { Ready machine }
     requires lengths { lengths_of (stores «data».old heap.old call.old operand.old) ≡ machine.lengths }
     ensures { Drove result machine.entry.code.now budget
-        (scene (state_in machine.entry (stores «data».old heap.old call.old operand.old)) (view (waiting console.old) (written console.old) (room console.old)))
-        (stores «data».new heap.new call.new operand.new) (view (waiting console.new) (written console.new) (room console.new)) }
+        (scene (state_in machine.entry (stores «data».old heap.old call.old operand.old)) (view (C.waiting console.old) (C.written console.old) (C.room console.old)))
+        (stores «data».new heap.new call.new operand.new) (view (C.waiting console.new) (C.written console.new) (C.room console.new)) }
 {
     let mut machine = machine;
     let mut made: u64 = 0;
@@ -94,8 +94,8 @@ pub fn execute<C: Console>(
     console: &mut C,
 ) -> Result<Report, Unfit>
     ensures { ExecutedAs result object.now budget
-        (stores «data».old heap.old call.old operand.old) (view (waiting console.old) (written console.old) (room console.old))
-        (stores «data».new heap.new call.new operand.new) (view (waiting console.new) (written console.new) (room console.new)) }
+        (stores «data».old heap.old call.old operand.old) (view (C.waiting console.old) (C.written console.old) (C.room console.old))
+        (stores «data».new heap.new call.new operand.new) (view (C.waiting console.new) (C.written console.new) (C.room console.new)) }
 {
     match begin(object, data, heap, call, operand) {
         Ok(machine) => Ok(drive(machine, budget, data, heap, call, operand, console)),

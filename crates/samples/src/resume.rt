@@ -30,8 +30,8 @@ pub fn resume<'a, C: Console>(
 ) -> Option<Progress<'a>>
     requires { LeftReady (machine_of progress) }
     ensures { ResumedAs result (machine_of progress.entry) budget
-        (stores «data».old heap.old call.old operand.old) (view (waiting console.old) (written console.old) (room console.old))
-        (stores «data».new heap.new call.new operand.new) (view (waiting console.new) (written console.new) (room console.new)) }
+        (stores «data».old heap.old call.old operand.old) (view (C.waiting console.old) (C.written console.old) (C.room console.old))
+        (stores «data».new heap.new call.new operand.new) (view (C.waiting console.new) (C.written console.new) (C.room console.new)) }
 {
     match onward(progress) {
         Some(machine) => Some(advance(machine, budget, data, heap, call, operand, console)),

@@ -1,4 +1,4 @@
-use Rattle.std.proofs.Common.{◌≡◌, sym, refl, ap, ◌∙◌, subst, arith, rules}
+use Rattle.std.proofs.Common.{sym, subst, arith}
 use Rattle.step.specs.Sound.{Sound}
 use Rattle.step.specs.State.{state}
 use Rattle.machine.specs.Runs.{Scene, scene, view, Led}

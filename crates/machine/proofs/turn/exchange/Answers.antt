@@ -1,4 +1,4 @@
-use Rattle.std.proofs.Common.{◌≡◌, sym, subst, w32, SFits, rules}
+use Rattle.std.proofs.Common.{sym, subst, w32, SFits, rules}
 use Rattle.std.proofs.lemmas.Int.{to_z-of_z}
 use Rattle.step.specs.declared.registers.Effect.{Effect}
 use Rattle.step.specs.State.{State, state}

@@ -1,4 +1,4 @@
-use Rattle.std.proofs.Common.{◌≡◌, pos, w32, SFits, rules}
+use Rattle.std.proofs.Common.{pos, w32, SFits, rules}
 use Rattle.std.proofs.lemmas.Int.{to_z-of_z}
 use Rattle.words.specs.Bytes.{kept}
 use Rattle.step.specs.State.{state, at}

@@ -1,5 +1,4 @@
-use Rattle.std.proofs.Common.{rules}
-use Rattle.step.specs.State.{State, state}
+use Rattle.step.specs.State.{state}
 use Rattle.machine.proofs.Stepping.{did_turn, did_want}
 use Rattle.machine.proofs.turn.turn.Goals as goal
 
