@@ -1,11 +1,11 @@
 -- Arguments, one by one.
-use Rattle.std.proofs.Common.{◌≡◌, ℕ, ◌+◌, ◌-◌, ◌<◌, ◌≤◌, List, [], ◌∷◌, map, length, get_or, take, drop, Some, sym, refl, ap, ◌∙◌, add-one, arith, drop-cons, Bor}
+use Rattle.std.proofs.Common.{◌≡◌, ℕ, ◌+◌, ◌-◌, ◌<◌, ◌≤◌, List, [], ◌∷◌, length, get_or, take, drop, Some, sym, refl, ap, ◌∙◌, add-one, arith, drop-cons, Bor}
 use Rattle.std.proofs.lemmas.List.{drop_all, drop-map, take_rest}
 use Rattle.commands.specs.declared.arguments.Command.{Command}
 use Rattle.commands.specs.declared.failure.Failure.{Failure}
 use Rattle.commands.specs.declared.failure.Failure.TheVariants as failure
 use Rattle.commands.specs.Arguments.{Said, accepted, accepted_all, command_named, or_unknown, texts_of, understood, understood_at, understood_behind}
-use Rattle.commands.specs.Understood.{Understood, unclear, asks, missing, and_then, FailsAs}
+use Rattle.commands.specs.Understood.{Understood, asks, and_then, FailsAs}
 
 abbrev nowhere : Bor (List ℕ)
 nowhere = record { ref_ptr = (0, 0); now = [] }

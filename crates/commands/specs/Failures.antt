@@ -1,5 +1,5 @@
 -- What is printed where a command gives no answer.
-use Rattle.std.specs.Prelude.{ℕ, List, [], ◌∷◌, ◌++◌, string_bytes, codes}
+use Rattle.std.specs.Prelude.{ℕ, List, ◌++◌, string_bytes, codes}
 use Rattle.commands.specs.declared.failure.Failure.{Failure}
 use Rattle.commands.specs.declared.failure.Failure.TheVariants.{Unreadable, Unclear, NotText, Missing, NoMemory}
 

@@ -4,7 +4,7 @@ ghost use Rattle.std.specs.Prelude.{◌≡◌, IfOk, string_bytes};
 use crate::answer::{Answer, Report, Stop};
 use crate::hex::hex;
 use crate::names::pause_letter;
-use crate::words::separated;
+use crate::word_lists::separated;
 use std::alloc::{AllocError, Global};
 
 // stop_name is the value of the key `stop`.

@@ -6,7 +6,7 @@
 // numbers.rt: numbers in arguments. failure.rt: why a command gives no answer.
 // answer.rt: what a command has to say. reply.rt: what is printed for it, and where.
 // json.rt: answers as JSON. report.rt: answers for a reader. names.rt: names of verdicts, pauses and refusals.
-// words.rt: lists of words as text. hex.rt: bytes as text. listing.rt: code as text. mnemonics.rt: the names of opcodes.
+// word_lists.rt: lists of words as text. hex.rt: bytes as text. listing.rt: code as text. mnemonics.rt: the names of opcodes.
 // docs/command-line.md: the rules.
 #![tactic(auto)]
 
@@ -22,4 +22,4 @@ mod numbers;
 pub mod reply;
 mod report;
 pub mod request;
-mod words;
+mod word_lists;

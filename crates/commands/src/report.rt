@@ -3,7 +3,7 @@ ghost use Rattle.std.specs.Prelude.{◌≡◌, IfOk, string_bytes};
 
 use crate::answer::{Report, Stop, Summary};
 use crate::names::{pause_name, refusal_words, verdict_name};
-use crate::words::each_behind;
+use crate::word_lists::each_behind;
 use object::checked::ObjectFault;
 use outcomes::Refusal;
 use std::alloc::{AllocError, Global};

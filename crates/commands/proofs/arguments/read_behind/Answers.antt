@@ -1,6 +1,6 @@
 use Rattle.std.proofs.Common.{◌+◌, drop, ap, ◌∙◌}
 use Rattle.std.proofs.lemmas.Result.{err_from_is_err_and}
-use Rattle.commands.specs.Arguments.{reading_of, accepted_all, finished, texts_of}
+use Rattle.commands.specs.Arguments.{reading_of, accepted_all, texts_of}
 use Rattle.commands.specs.Understood.{and_then}
 use Rattle.commands.proofs.Reading.{fails_like, fails_then, one_more, none_left}
 use Rattle.commands.proofs.arguments.read_behind.Goals as goal

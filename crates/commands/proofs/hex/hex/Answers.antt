@@ -1,4 +1,4 @@
-use Rattle.std.proofs.Common.{get_or, take, ap, ◌∙◌, arith}
+use Rattle.std.proofs.Common.{get_or, take, ap, ◌∙◌}
 use Rattle.std.proofs.lemmas.List.{take_more, take_all}
 use Rattle.commands.specs.Words.{hex_of}
 use Rattle.commands.proofs.Appending.{hex_of_push}

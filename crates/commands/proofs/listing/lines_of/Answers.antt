@@ -1,4 +1,4 @@
-use Rattle.std.proofs.Common.{◌≡◌, ◌++◌, get_or, drop, Some, None, string_bytes, sym, ap, ◌∙◌, arith, length-drop}
+use Rattle.std.proofs.Common.{◌≡◌, ◌++◌, drop, Some, string_bytes, sym, ap, ◌∙◌, arith, length-drop}
 use Rattle.std.proofs.lemmas.List.{take_rest}
 use Rattle.instructions.specs.Decode.{decoded}
 use Rattle.object.proofs.Sizes.{decoded_size}
@@ -25,4 +25,4 @@ loop-found-preserved c =
 pub returns : goal.returns
 returns c =
     let l = c.loop-found in
-    left_none c.args.code.now _ l.at l.invariant (ap decoded (sym (take_rest c.args.code.now l.at)) ∙ sym c.in-default.ensures)
+    left_none c.args.code.now _ l.at l.invariant (ap decoded (sym (take_rest c.args.code.now l.at)) ∙ sym c.in_default.ensures)

@@ -2,7 +2,7 @@ use Rattle.std.proofs.Common.{get_or, take, pos, ap, ◌∙◌}
 use Rattle.std.proofs.lemmas.List.{take_more, take_all}
 use Rattle.commands.specs.Words.{each_behind}
 use Rattle.commands.proofs.Appending.{each_behind_push}
-use Rattle.commands.proofs.words.each_behind.Goals as goal
+use Rattle.commands.proofs.word_lists.each_behind.Goals as goal
 
 pub loop-word-preserved : goal.loop-word-preserved
 loop-word-preserved c =
