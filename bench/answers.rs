@@ -123,12 +123,19 @@ fn hex(text: &str) -> Read<Vec<u8>> {
     }
 }
 
-/// of_decisions reads the tests of a page whose tables have the columns Code, Given and Answer.
+/// of_decisions reads the tests of a page: the tables that have the columns Code, Given and Answer.
 pub fn of_decisions(page: &Path) -> Read<Vec<Check>> {
     let mut checks = Vec::new();
+    let mut of_code = false;
     for (at, line) in fs::read_to_string(page)?.lines().enumerate() {
         let columns: Vec<&str> = line.split('|').map(str::trim).collect();
         let ["", code, given, answer, ""] = columns[..] else { continue };
+        if given == "Given" {
+            of_code = code == "Code";
+        }
+        if !of_code {
+            continue;
+        }
         let Some(code) = code.strip_prefix('`').and_then(|code| code.strip_suffix('`')) else { continue };
         let from = format!("{}:{}", page.display(), at + 1);
         let test = decision(code, given, answer).map_err(|error| format!("{from}: {error}"))?;

@@ -1,4 +1,4 @@
-//! The proved machine, behind the one function of the crate `foreign`.
+//! The proved machine, behind the one function of the crate `foreign_c`.
 
 unsafe extern "C" {
     /// A slice passes as its pointer and its length.

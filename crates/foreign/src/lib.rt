@@ -1,6 +1,6 @@
 // Owns the calls for programs in other languages: numbers and slices only.
 // Promises that a call tests whatever the layers below ask for, so that no caller can break a promise.
-// Does not allocate. bench/ calls it; hosts in C and Rust are to follow.
+// Does not allocate. The crate foreign_c gives them their C names; bench/ calls it, hosts in C and Rust are to follow.
 #![tactic(auto)]
 
 ghost use Rattle.foreign.specs.Reports.{Answered, steps_of, stop_of, verdict_of};
@@ -53,8 +53,7 @@ pub fn summarize(progress: Progress<'_>) -> Summary
 
 // jelpuma_run_object inspects an object file, starts it in four stores and runs it once over words and out.
 // It answers 0, and in the report how the run stopped, its verdict, steps, words taken and bytes written; or the number of a refusal, and its offset first in the report; or 255 for a report of fewer than five numbers.
-#[unsafe(no_mangle)]
-pub extern "C" fn jelpuma_run_object(
+pub fn jelpuma_run_object(
     object: &[u8],
     words: &[i32],
     data: &mut [i32],
