@@ -18,10 +18,8 @@ use object_file::{check_object, list_object, run_object};
 use sample::SAMPLE;
 use std::alloc::Global;
 use std::io::Write;
+use std::process::ExitCode;
 use std::{env, io};
-
-// Unsuccessful ends the program with status 1.
-struct Unsuccessful;
 
 // arguments gives the arguments behind the program's own name.
 fn arguments(rt: &HostRuntime) -> Result<Vec<String>, Failure> {
@@ -72,19 +70,20 @@ fn reply(rt: &HostRuntime) -> Result<Reply, Failure> {
     }
 }
 
-fn main(rt: HostRuntime) -> Result<(), Unsuccessful> {
+// main prints the reply and ends with its status: 0 for an answer that is written, else 1.
+fn main(rt: HostRuntime) -> ExitCode {
     match reply(&rt) {
         Ok(Reply::Answered(bytes)) => match rt.stdout().write_all(&bytes) {
-            Ok(()) => Ok(()),
-            Err(_) => Err(Unsuccessful),
+            Ok(()) => ExitCode::SUCCESS,
+            Err(_) => ExitCode::FAILURE,
         },
         Ok(Reply::Refused(bytes)) => {
             let _ = rt.stderr().write_all(&bytes);
-            Err(Unsuccessful)
+            ExitCode::FAILURE
         }
         Err(failure) => {
             let _ = rt.eprint(failure);
-            Err(Unsuccessful)
+            ExitCode::FAILURE
         }
     }
 }
