@@ -1,11 +1,11 @@
 -- Runs one behind the other: their steps, what they exchange, and why they stop.
-use Rattle.std.proofs.Common.{◌≡◌, ℕ, ◌+◌, ◌<◌, ◌≤◌, List, ◌++◌, sym, refl, ap, ◌∙◌, subst, append_assoc, arith, length-append}
+use Rattle.std.proofs.Common.{◌≡◌, ℕ, ◌+◌, ◌<◌, ◌≤◌, List, sym, refl, ap, ◌∙◌, subst, arith}
 use Rattle.outcomes.specs.declared.Pause.{Pause}
 use Rattle.outcomes.specs.declared.Pause.TheVariants.{Budget, Input, Output}
 use Rattle.outcomes.specs.declared.Verdict.{Verdict}
 use Rattle.step.specs.declared.registers.Registers.{Registers}
 use Rattle.machine.specs.Laws.{after_more}
-use Rattle.machine.specs.Runs.{View, Scene, scene, turn, Exchanged, Led}
+use Rattle.machine.specs.Runs.{View, Scene, scene, turn, Led}
 use Rattle.machine.specs.Machines.{Stores, state_with}
 use Rattle.machine.specs.Answers.{EndsWith, PausesAt}
 use Rattle.machine.proofs.Composing.{runs_compose}

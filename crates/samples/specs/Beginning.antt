@@ -1,6 +1,5 @@
 -- A machine of the bytes of a file, or which refusal is handed on.
 use Rattle.std.specs.Prelude.{◌≡◌, ℕ, List, Ok, Err, Result}
-use Rattle.outcomes.specs.declared.Refusal.{Refusal}
 use Rattle.outcomes.specs.declared.Refusal.TheVariants.{UnfitStore}
 use Rattle.object.specs.File.{Object, file_of}
 use Rattle.object.specs.Inspection.{WellFormed, RefusedFor}

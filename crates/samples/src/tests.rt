@@ -40,7 +40,7 @@ fn counts_down_in_one_run(rt: HostRuntime) -> Result<(), Fail> {
             verdict: Verdict::Finished,
             steps: 35,
         } => {
-            assert_eq!(rt; console.written_bytes(), b"321\n");
+            assert_eq!(rt; console.written_bytes(), b"321\n".as_slice());
             Ok(())
         }
         _ => Err(Fail::new("the program does not finish in 35 steps")),
@@ -69,7 +69,7 @@ fn counts_down_in_runs_of_ten(rt: HostRuntime) -> Result<(), Fail> {
             steps: 35,
         }
     );
-    assert_eq!(rt; console.written_bytes(), b"321\n");
+    assert_eq!(rt; console.written_bytes(), b"321\n".as_slice());
     Ok(())
 }
 
@@ -116,7 +116,7 @@ fn refused_run_changes_nothing(rt: HostRuntime) -> Result<(), Fail> {
     assert_eq!(rt; refusal, Refusal::StoreLengthChanged);
     assert_eq!(rt; call, [-1, 0, 0]);
     assert_eq!(rt; longer, [8; 33]);
-    assert_eq!(rt; console.written_bytes(), b"");
+    assert_eq!(rt; console.written_bytes(), b"".as_slice());
     match advance(
         machine,
         35,
@@ -130,7 +130,7 @@ fn refused_run_changes_nothing(rt: HostRuntime) -> Result<(), Fail> {
             verdict: Verdict::Finished,
             steps: 35,
         } => {
-            assert_eq!(rt; console.written_bytes(), b"321\n");
+            assert_eq!(rt; console.written_bytes(), b"321\n".as_slice());
             Ok(())
         }
         _ => Err(Fail::new("the program does not finish in 35 steps")),
@@ -194,7 +194,7 @@ fn second_refused_run_changes_nothing(rt: HostRuntime) -> Result<(), Fail> {
     assert_eq!(rt; refusal, Refusal::StoreLengthChanged);
     assert_eq!(rt; call, [-1, 0, 0]);
     assert_eq!(rt; longer, [8; 33]);
-    assert_eq!(rt; console.written_bytes(), b"");
+    assert_eq!(rt; console.written_bytes(), b"".as_slice());
     let Progress::Refused { refusal, machine } = advance(
         machine,
         35,
@@ -220,7 +220,7 @@ fn second_refused_run_changes_nothing(rt: HostRuntime) -> Result<(), Fail> {
             verdict: Verdict::Finished,
             steps: 35,
         } => {
-            assert_eq!(rt; console.written_bytes(), b"321\n");
+            assert_eq!(rt; console.written_bytes(), b"321\n".as_slice());
             Ok(())
         }
         _ => Err(Fail::new("the program does not finish in 35 steps")),
