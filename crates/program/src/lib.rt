@@ -1,5 +1,5 @@
 // Owns the core program: what a legal text stands for once its names are resolved and its types decided.
-// Promises that the flat list of a body determines the body.
+// Promises nothing yet: that the flat list of a body determines the body is still to be stated and proved.
 // Does not say which texts are legal (the crate context), what a program does (meaning) or how it is coded (code).
 //
 // specs/Core.antt: values, conditions, actions, methods and programs. specs/Legal.antt: legal programs. specs/Flat.antt: the flat list of a program.
