@@ -8,12 +8,14 @@ ghost use Rattle.machine.specs.Machines.{stores};
 ghost use Rattle.std.specs.Prelude.{◌≡◌};
 
 use console::{Console, SliceConsole};
+use machine::Stores;
 use machine::advance::advance;
 use machine::machine::Progress;
 use machine::start::start;
 use object::inspect::inspect;
+use outcomes::Numbered;
 
-// Summary is what a run came to, in numbers.
+// Summary is what a run came to, in numbers, since the C interface has no enums.
 #[derive(Clone, Copy)]
 pub struct Summary {
     pub stop: u64,
@@ -77,7 +79,13 @@ pub fn jelpuma_run_object(
             return fault.refusal.number() as u32;
         }
     };
-    let machine = match start(checked, data, heap, call, operand) {
+    let mut stores = Stores {
+        data,
+        heap,
+        call,
+        operand,
+    };
+    let machine = match start(checked, &mut stores) {
         Ok(machine) => machine,
         Err(refusal) => {
             report[0] = 0;
@@ -85,7 +93,7 @@ pub fn jelpuma_run_object(
         }
     };
     let mut console = SliceConsole::new(words, out);
-    let answer = summarize(advance(machine, budget, data, heap, call, operand, &mut console));
+    let answer = summarize(advance(machine, budget, &mut stores, &mut console));
     report[0] = answer.stop;
     report[1] = answer.verdict;
     report[2] = answer.steps;

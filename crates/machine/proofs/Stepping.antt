@@ -1,20 +1,21 @@
 -- One turn more: the steps of a run, what it exchanges with its console, and that it stays sound.
-use Rattle.std.proofs.Common.{◌≡◌, ℕ, ◌+◌, ◌-◌, ◌<◌, ◌≤◌, Bool, true, false, cond, leb, List, [], ◌∷◌, ◌++◌, length, ℤ, Some, Ok, Err, Result, sym, refl, ap, ◌∙◌, subst, append_assoc, append-nil, add-one, arith, length-append}
+use Rattle.std.proofs.Common.{◌≡◌, ℕ, ◌+◌, ◌-◌, ◌<◌, ◌≤◌, Bool, true, false, cond, leb, List, [], ◌∷◌, ◌++◌, length, ℤ, Ok, Err, Result, sym, refl, ap, ◌∙◌, subst, append_assoc, append-nil, add-one, arith, length-append}
 use Rattle.std.proofs.lemmas.Bool.{leb-true}
 use Rattle.outcomes.specs.declared.Pause.{Pause}
-use Rattle.outcomes.specs.declared.Pause.TheVariants.{Input, Output}
+use Rattle.outcomes.specs.declared.Pause.TheVariants.{Budget, Input, Output}
 use Rattle.outcomes.specs.declared.Verdict.{Verdict}
 use Rattle.step.specs.State.{State, Step, moves, takes, writes, ends}
 use Rattle.step.specs.declared.registers.Effect.{Effect}
 use Rattle.step.specs.declared.registers.Effect.TheVariants.{Moved, Takes, Writes}
 use Rattle.step.specs.Perform.{step}
-use Rattle.step.specs.Promises.{Did}
-use Rattle.step.specs.Sound.{Sound}
-use Rattle.step.proofs.Soundness.{Keeps, step_keeps}
-use Rattle.machine.specs.declared.turn.Halt.{Halt}
-use Rattle.machine.specs.declared.turn.Halt.TheVariants.{Ended, Paused}
+use Rattle.std.specs.Borrow.{MutBor}
+use Rattle.step.specs.Loans.{SameStore}
+use Rattle.step.specs.Promises.{SameLoans, Did, state_of}
+use Rattle.step.specs.declared.interpreter.Interpreter.{Interpreter}
+use Rattle.outcomes.specs.declared.Stop.{Stop}
+use Rattle.outcomes.specs.declared.Stop.TheVariants.{Ended, Paused}
 use Rattle.machine.specs.Runs.{View, view, Scene, scene, goes, pauses, stops, with_word, turn_of, turn, made, onward, after, Exchanged, Led}
-use Rattle.machine.specs.Turns.{Turned, TurnedAt, step_of, Wanted, Halted}
+use Rattle.machine.specs.Turns.{Turned, step_of, Wanted, Halted}
 
 no_pause : {P : Type 0} (p : Pause) (t : Scene) → pauses p ≡ goes t → P
 no_pause p t e = let z : ◌≡◌ {A = ℕ} 0 1 = cc in absurd (omega arith)
@@ -25,24 +26,20 @@ no_stop v t e = let z : ◌≡◌ {A = ℕ} 0 1 = cc in absurd (omega arith)
 same_scene : (s t : Scene) → goes s ≡ goes t → s ≡ t
 same_scene s t e = cc
 
--- sound states
+-- no turn says that the budget is spent
+never_word : {P : Type 0} (f : ℤ → State) (v : View) (ws : List ℤ) → with_word f v ws ≡ pauses Budget → P
+never_word f v [] e = let z : ◌≡◌ {A = ℕ} 0 1 = cc in absurd (omega arith)
+never_word f v (w ∷ ws) e = no_pause Budget _ (sym e)
 
-word_sound : (f : ℤ → State) (v : View) (ws : List ℤ) (t : Scene) → ((w : ℤ) → Sound (f w)) → with_word f v ws ≡ goes t → Sound t.state
-word_sound f v [] t k e = no_pause Input t e
-word_sound f v (w ∷ ws) t k e = subst Sound (ap (λ (x : Scene). x.state) (same_scene _ t e)) (k w)
+never_bytes : {P : Type 0} (b : Bool) (s : Scene) → cond b (goes s) (pauses Output) ≡ pauses Budget → P
+never_bytes true s e = no_pause Budget _ (sym e)
+never_bytes false s e = let z : ◌≡◌ {A = ℕ} 0 1 = cc in absurd (omega arith)
 
-bytes_sound : (b : Bool) (s : State) (v : View) (t : Scene) → Sound s → cond b (goes (scene s v)) (pauses Output) ≡ goes t → Sound t.state
-bytes_sound true s v t k e = subst Sound (ap (λ (x : Scene). x.state) (same_scene _ t e)) k
-bytes_sound false s v t k e = no_pause Output t e
-
-step_sound : (x : Step) (v : View) (t : Scene) → Keeps x → turn_of x v ≡ goes t → Sound t.state
-step_sound (moves s) v t k e = subst Sound (ap (λ (x : Scene). x.state) (same_scene _ t e)) k
-step_sound (takes f) v t k e = word_sound f v v.waiting t k e
-step_sound (writes bytes s) v t k e = bytes_sound (leb (length bytes) v.room) s _ t k e
-step_sound (ends verdict) v t k e = no_stop verdict t e
-
-pub turn_sound : (code : List ℕ) (s t : Scene) → Sound s.state → turn code s ≡ goes t → Sound t.state
-turn_sound code s t k e = step_sound (step code s.state) s.console t (step_keeps code s.state k) e
+never_spent : {P : Type 0} (x : Step) (v : View) → turn_of x v ≡ pauses Budget → P
+never_spent (moves s) v e = no_pause Budget _ (sym e)
+never_spent (takes f) v e = never_word f v v.waiting e
+never_spent (writes bytes s) v e = never_bytes (leb (length bytes) v.room) _ e
+never_spent (ends verdict) v e = let z : ◌≡◌ {A = ℕ} 0 1 = cc in absurd (omega arith)
 
 -- what is exchanged
 
@@ -93,12 +90,14 @@ led_more code n from mid to l e = record {
 }
 
 -- a turn that halts leaves the scene as it was
-pub halts : (halt : Halt) (code : List ℕ) (budget n : ℕ) (before last : Scene) → n < budget → Turned (Err halt) (turn code before) before last → Halted (Some halt) code budget n last × (last ≡ before)
+pub halts : (stop : Stop) (code : List ℕ) (budget n : ℕ) (before last : Scene) → n < budget → Turned (Err stop) (turn code before) before last → Halted stop code budget n last × (last ≡ before)
 halts (Ended verdict) code budget n before last lt t = ((lt, ap (turn code) t.1 ∙ t.0), t.1)
-halts (Paused pause) code budget n before last lt t = ((lt, ap (turn code) t.1 ∙ t.0), t.1)
+halts (Paused Budget) code budget n before last lt t = never_spent (step code before.state) before.console t.0
+halts (Paused Input) code budget n before last lt t = ((lt, ap (turn code) t.1 ∙ t.0), t.1)
+halts (Paused Output) code budget n before last lt t = ((lt, ap (turn code) t.1 ∙ t.0), t.1)
 
 -- a step and its exchange make a turn
-pub did_turn : (o : Result (Unit {0}) Halt) (effect : Effect) (code : List ℕ) (s t : State) (v : View) (last : Scene) → Did (Ok effect) (step code s) s t → Turned o (turn_of (step_of effect t) v) (scene t v) last → TurnedAt o code (scene s v) last
+pub did_turn : (o : Result (Unit {0}) Stop) (effect : Effect) (code : List ℕ) (s t : State) (v : View) (last : Scene) → Did (Ok effect) (step code s) s t → Turned o (turn_of (step_of effect t) v) (scene t v) last → Turned o (turn code (scene s v)) (scene s v) last
 did_turn (Ok _) Moved code s t v last d h = ap (λ (x : Step). turn_of x v) d ∙ h
 did_turn (Err (Ended verdict)) Moved code s t v last d h = no_stop verdict _ (sym h.0)
 did_turn (Err (Paused pause)) Moved code s t v last d h = no_pause pause _ (sym h.0)
@@ -111,7 +110,21 @@ did_turn o (Writes kind value width next) code s t v last d h =
     let Q : Step → Type 0 = λ x. Turned o (turn_of x v) (scene s v) last in
     subst Q (sym d.0) (subst P d.2 h)
 
-pub did_want : (effect : Effect) (x : Step) (s t : State) → Did (Ok effect) x s t → Wanted effect t.registers t.operand
-did_want Moved x s t d = tt
-did_want (Takes kind next) x s t d = subst (λ (y : State). y.registers.height < length y.operand) (sym d.2) d.1
-did_want (Writes kind value width next) x s t d = subst (λ (y : State). 2 ≤ y.registers.height) (sym d.2) d.1
+pub did_want : (effect : Effect) (x : Step) (s : State) (j : Interpreter) → Did (Ok effect) x s (state_of j) → Wanted effect j
+did_want Moved x s j d = tt
+did_want (Takes kind next) x s j d = subst (λ (y : State). y.registers.height < length y.operand) (sym d.2) d.1
+did_want (Writes kind value width next) x s j d = subst (λ (y : State). 2 ≤ y.registers.height) (sym d.2) d.1
+
+-- stores that stay the ones that were lent
+
+pub same_store_on : (s t u : MutBor (List ℤ)) → SameStore s t → SameStore t u → SameStore s u
+same_store_on s t u a b = record { name = b.name ∙ a.name; long = b.long ∙ a.long }
+
+pub same_loans_on : (i j k : Interpreter) → SameLoans i j → SameLoans j k → SameLoans i k
+same_loans_on i j k a b = record {
+  code = b.code ∙ a.code;
+  datas = same_store_on _ _ _ a.datas b.datas;
+  heap = same_store_on _ _ _ a.heap b.heap;
+  call = same_store_on _ _ _ a.call b.call;
+  operand = same_store_on _ _ _ a.operand b.operand;
+}

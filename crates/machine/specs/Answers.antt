@@ -11,11 +11,11 @@ use Rattle.machine.specs.declared.machine.Machine.{Machine}
 use Rattle.machine.specs.declared.machine.Progress.{Progress}
 use Rattle.machine.specs.declared.machine.Progress.TheVariants.{Ended, Paused, Refused}
 use Rattle.machine.specs.Runs.{View, Scene, scene, pauses, stops, turn, Led}
-use Rattle.machine.specs.Machines.{Stores, lengths_of, Suffices, cleared, state_with, state_in, Begins, Ready}
+use Rattle.machine.specs.Machines.{Stores, lengths_of, Suffices, cleared, state_with, state_in, Begins}
 
 -- start: a machine in cleared stores, or 16 exactly if a length does not suffice, with nothing changed
 abbrev pub StartedAs : Object → Result Machine Refusal → Stores → Stores → Type 0
-StartedAs o (Ok m) before after = Suffices o.globals (lengths_of before) × Begins o before m × (after ≡ cleared before) × Ready m
+StartedAs o (Ok m) before after = Suffices o.globals (lengths_of before) × Begins o before m × (after ≡ cleared before)
 StartedAs o (Err r) before after = (r ≡ UnfitStore) × (Suffices o.globals (lengths_of before) → ⊥) × (after ≡ before)
 
 -- how a run ends with a verdict: after the steps before it, the next one is the verdict's, which is counted and changes nothing
@@ -37,7 +37,6 @@ PausesAt Output code budget n to = (n < budget) × (turn code to ≡ pauses Outp
 pub record Continues (m m' : Machine) : Type 0 where
   pub code : m'.code.now ≡ m.code.now
   pub lengths : m'.lengths ≡ m.lengths
-  pub ready : Ready m'
 
 -- advance: a verdict, or a pause and the machine; 17 exactly if a store's length differs from the start, with nothing changed
 abbrev pub AdvancedAs : Progress → Machine → ℕ → Stores → View → Stores → View → Type 0

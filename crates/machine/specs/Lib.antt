@@ -1,5 +1,5 @@
 pub mod Runs
-pub mod Turns
 pub mod Machines
 pub mod Answers
+pub mod Turns
 pub mod Laws

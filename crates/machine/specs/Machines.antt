@@ -1,9 +1,11 @@
--- Machines between runs: how one begins, and what always holds of one.
+-- Stores, and machines between runs: how one begins.
 use Rattle.std.specs.Prelude.{◌≡◌, ℕ, ◌≤◌, List, length, replicate, ℤ, pos, negsuc, slice_set}
 use Rattle.object.specs.File.{Object}
 use Rattle.step.specs.declared.registers.Registers.{Registers}
+use Rattle.step.specs.Loans.{SameStore}
 use Rattle.step.specs.State.{State, state}
-use Rattle.machine.specs.declared.machine.Lengths.{Lengths}
+use Rattle.step.specs.declared.interpreter.Stores.{Stores as Lent}
+use Rattle.machine.specs.declared.lengths.Lengths.{Lengths}
 use Rattle.machine.specs.declared.machine.Machine.{Machine}
 
 -- four stores
@@ -15,6 +17,17 @@ pub record Stores : Type 0 where
 
 abbrev pub stores : List ℤ → List ℤ → List ℤ → List ℤ → Stores
 stores d h c p = record { datas = d; heap = h; call = c; operand = p }
+
+-- what lent stores hold
+abbrev pub contents : Lent → Stores
+contents l = stores l.«data».now l.heap.now l.call.now l.operand.now
+
+-- the stores are the ones that were lent
+pub record SameStores (l m : Lent) : Type 0 where
+  pub datas : SameStore l.«data» m.«data»
+  pub heap : SameStore l.heap m.heap
+  pub call : SameStore l.call m.call
+  pub operand : SameStore l.operand m.operand
 
 abbrev pub lengths_of : Stores → Lengths
 lengths_of s = record { «data» = length s.datas; heap = length s.heap; call = length s.call; operand = length s.operand }
@@ -50,12 +63,3 @@ pub record Begins (o : Object) (s : Stores) (m : Machine) : Type 0 where
   pub height : m.registers.height ≡ 0
   pub free : m.registers.free ≡ 1
   pub lengths : m.lengths ≡ lengths_of s
-
--- what holds of every machine that start or advance hands out
-pub record Ready (m : Machine) : Type 0 where
-  pub code_short : length m.code.now ≤ 8192
-  pub call_short : m.lengths.call ≤ 1048576
-  pub heap_short : m.lengths.heap ≤ 1048576
-  pub height : m.registers.height ≤ m.lengths.operand
-  pub top : m.registers.top ≤ m.lengths.call
-  pub free : m.registers.free ≤ m.lengths.heap

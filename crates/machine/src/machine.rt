@@ -1,14 +1,8 @@
+ghost use Rattle.std.specs.Prelude.{◌≤◌, length};
+
+use crate::lengths::Lengths;
 use outcomes::{Pause, Refusal, Verdict};
 use step::registers::Registers;
-
-// Lengths are those of the four stores, in words.
-#[derive(Clone, Copy)]
-pub struct Lengths {
-    pub(crate) data: usize,
-    pub(crate) heap: usize,
-    pub(crate) call: usize,
-    pub(crate) operand: usize,
-}
 
 // Machine is a machine between two runs. Only start and advance make one, and advance uses it up.
 #[derive(Drop)]
@@ -16,6 +10,12 @@ pub struct Machine<'a> {
     pub(crate) code: &'a [u8],
     pub(crate) registers: Registers,
     pub(crate) lengths: Lengths,
+    ghost code_short: { length code.now ≤ 8192 },
+    ghost call_short: { lengths.call ≤ 1048576 },
+    ghost heap_short: { lengths.heap ≤ 1048576 },
+    ghost height_within: { registers.height ≤ lengths.operand },
+    ghost top_within: { registers.top ≤ lengths.call },
+    ghost free_within: { registers.free ≤ lengths.heap },
 }
 
 // Progress is the answer of a run.

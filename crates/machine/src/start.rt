@@ -1,53 +1,29 @@
 ghost use Rattle.machine.specs.Answers.{StartedAs};
-ghost use Rattle.machine.specs.Machines.{Suffices, stores};
+ghost use Rattle.machine.specs.Machines.{SameStores, contents};
 ghost use Rattle.object.specs.Inspection.{WellFormed, object_of};
-ghost use Rattle.std.specs.Prelude.{Decides};
 
-use crate::machine::{Lengths, Machine};
+use crate::lengths::Lengths;
+use crate::machine::Machine;
 use object::checked::Checked;
 use outcomes::Refusal;
+use step::interpreter::Stores;
 use step::registers::Registers;
 
-// suffice tells whether stores of these lengths will do for so many globals.
-fn suffice(globals: usize, n: Lengths) -> bool
-    ensures { Decides result (Suffices globals n) }
-{
-    globals <= n.data
-        && n.data <= 1_048_576
-        && 1 <= n.heap
-        && n.heap <= 1_048_576
-        && 1 <= n.call
-        && n.call <= 1_048_576
-        && 32 <= n.operand
-        && n.operand <= 1_048_576
-}
-
-// start makes a machine of an inspected object, in four stores that it clears; or refuses the stores, and changes nothing.
-pub fn start<'a>(
-    checked: Checked<'a>,
-    data: &mut [i32],
-    heap: &mut [i32],
-    call: &mut [i32],
-    operand: &mut [i32],
-) -> Result<Machine<'a>, Refusal>
+// start makes a machine of an inspected object, in stores that it clears; or refuses the stores, and changes nothing.
+pub fn start<'a>(checked: Checked<'a>, stores: &mut Stores<'_>) -> Result<Machine<'a>, Refusal>
     requires { WellFormed (object_of checked) }
-    ensures { StartedAs (object_of checked.entry) result (stores «data».old heap.old call.old operand.old)
-        (stores «data».new heap.new call.new operand.new) }
+    ensures same { SameStores stores.old stores.new }
+    ensures started { StartedAs (object_of checked.entry) result (contents stores.old) (contents stores.new) }
 {
-    let lengths = Lengths {
-        data: data.len(),
-        heap: heap.len(),
-        call: call.len(),
-        operand: operand.len(),
-    };
-    if !suffice(checked.globals(), lengths) {
+    let lengths = Lengths::of(stores);
+    if !lengths.suffice(checked.globals()) {
         return Err(Refusal::UnfitStore);
     }
-    data.fill(0);
-    heap.fill(0);
-    call.fill(0);
-    call[0] = -1;
-    operand.fill(0);
+    stores.data.fill(0);
+    stores.heap.fill(0);
+    stores.call.fill(0);
+    stores.call[0] = -1;
+    stores.operand.fill(0);
     let registers = Registers {
         pc: checked.main() as i32,
         frame: 0,

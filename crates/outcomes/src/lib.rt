@@ -9,6 +9,7 @@ ghost use Rattle.std.specs.Prelude.{◌≡◌, ℕ, Some};
 ghost use Rattle.std.proofs.Common.{rules};
 ghost use Rattle.outcomes.specs.Names.{name_of_pause, name_of_verdict, words_for};
 ghost use Rattle.outcomes.specs.Laws.{EachNumberIsOneCase};
+ghost use Rattle.outcomes.specs.declared.Stop.TheVariants.{Ended};
 ghost use Rattle.outcomes.specs.Numbers.{number_of_pause, number_of_refusal, number_of_stage, number_of_verdict, stage_of};
 
 use std::fmt;
@@ -232,6 +233,14 @@ impl fmt::Display for Refusal {
             Refusal::NoRoom => "there is too little room",
             Refusal::InputFull => "256 words wait already",
         })
+    }
+}
+
+impl From<Verdict> for Stop {
+    ghost from_gives = { λ verdict stop. stop ≡ Ended verdict };
+
+    fn from(verdict: Verdict) -> Stop {
+        Stop::Ended(verdict)
     }
 }
 

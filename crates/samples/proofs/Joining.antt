@@ -6,11 +6,12 @@ use Rattle.outcomes.specs.declared.Verdict.{Verdict}
 use Rattle.step.specs.declared.registers.Registers.{Registers}
 use Rattle.machine.specs.Laws.{after_more}
 use Rattle.machine.specs.Runs.{View, Scene, scene, turn, Led}
-use Rattle.machine.specs.Machines.{Stores, state_with}
+use Rattle.step.specs.declared.interpreter.Stores.{Stores as Lent}
+use Rattle.machine.specs.Machines.{Stores, SameStores, contents, lengths_of, state_with}
 use Rattle.machine.specs.Answers.{EndsWith, PausesAt}
 use Rattle.machine.proofs.Composing.{runs_compose}
-use Rattle.machine.proofs.Stepping.{in_turn}
-use Rattle.samples.specs.declared.execute.Stop.TheVariants.{Ended, Paused}
+use Rattle.machine.proofs.Stepping.{in_turn, same_store_on}
+use Rattle.outcomes.specs.declared.Stop.TheVariants.{Ended, Paused}
 use Rattle.samples.specs.Executing.{Drove}
 
 pub led_joined : (m n : ℕ) (code code' : List ℕ) (from mid to : Scene) → code' ≡ code → Led code m from mid → Led code' n mid to → Led code (m + n) from to
@@ -46,3 +47,21 @@ pauses_joined pause made steps portion budget code code' from mid r s v e a b at
       led = led_joined made steps code code' from mid to e a b;
       stopped = (refl, pauses_after pause made steps portion budget code to (subst (λ (c : List ℕ). PausesAt pause c portion steps to) e at) fits last);
     }
+
+-- stores that stay the ones that were lent, and so as long as they were
+
+pub same_stores_on : (k l m : Lent) → SameStores k l → SameStores l m → SameStores k m
+same_stores_on k l m a b = record {
+  datas = same_store_on _ _ _ a.datas b.datas;
+  heap = same_store_on _ _ _ a.heap b.heap;
+  call = same_store_on _ _ _ a.call b.call;
+  operand = same_store_on _ _ _ a.operand b.operand;
+}
+
+pub as_long : (l m : Lent) → SameStores l m → lengths_of (contents m) ≡ lengths_of (contents l)
+as_long l m a =
+    let d = a.datas.long in
+    let h = a.heap.long in
+    let k = a.call.long in
+    let o = a.operand.long in
+    cc

@@ -4,7 +4,7 @@ use Rattle.outcomes.specs.declared.Refusal.TheVariants.{UnfitStore}
 use Rattle.object.specs.File.{Object, file_of}
 use Rattle.object.specs.Inspection.{WellFormed, RefusedFor}
 use Rattle.machine.specs.declared.machine.Machine.{Machine}
-use Rattle.machine.specs.Machines.{Stores, lengths_of, Suffices, cleared, Begins, Ready}
+use Rattle.machine.specs.Machines.{Stores, lengths_of, Suffices, cleared, Begins}
 use Rattle.samples.specs.declared.begin.Unfit.{Unfit}
 use Rattle.samples.specs.declared.begin.Unfit.TheVariants.{Object as ObjectUnfit, Stores as StoresUnfit}
 
@@ -15,7 +15,6 @@ pub record Begun (m : Machine) (bytes : List ℕ) (s : Stores) : Type 0 where
   pub formed : WellFormed object
   pub fit : Suffices object.globals (lengths_of s)
   pub begins : Begins object s m
-  pub ready : Ready m
 
 -- the bytes are an object's, and the stores do not suffice for it
 pub record TooSmall (bytes : List ℕ) (s : Stores) : Type 0 where

@@ -6,7 +6,7 @@ use Rattle.machine.specs.Runs.{View, Scene, scene, stops, turn, Led}
 use Rattle.machine.specs.Machines.{Stores, cleared, state_with, state_in}
 use Rattle.machine.specs.Answers.{PausesAt}
 use Rattle.samples.specs.declared.begin.Unfit.{Unfit}
-use Rattle.samples.specs.declared.execute.Stop.TheVariants.{Ended, Paused}
+use Rattle.outcomes.specs.declared.Stop.TheVariants.{Ended, Paused}
 use Rattle.samples.specs.declared.execute.Report.{Report}
 use Rattle.samples.specs.Beginning.{Begun, BegunAs}
 

@@ -4,7 +4,7 @@ use Rattle.machine.specs.declared.machine.Machine.{Machine}
 use Rattle.machine.specs.declared.machine.Progress.{Progress}
 use Rattle.machine.specs.declared.machine.Progress.TheVariants.{Ended, Paused, Refused}
 use Rattle.machine.specs.Runs.{View}
-use Rattle.machine.specs.Machines.{Stores, Ready}
+use Rattle.machine.specs.Machines.{Stores}
 use Rattle.machine.specs.Answers.{AdvancedAs}
 
 -- a run leaves a machine unless the program ended
@@ -12,11 +12,6 @@ abbrev pub machine_of : Progress → Option Machine
 machine_of (Ended verdict steps) = None
 machine_of (Paused m pause steps) = Some m
 machine_of (Refused refusal m) = Some m
-
--- a machine that a run left is one that start or advance made
-abbrev pub LeftReady : Option Machine → Type 0
-LeftReady None = Unit {0}
-LeftReady (Some m) = Ready m
 
 -- resume: a run exactly if there is a machine; else nothing changes
 abbrev pub ResumedAs : Option Progress → Option Machine → ℕ → Stores → View → Stores → View → Type 0

@@ -1,6 +1,9 @@
-ghost use Rattle.machine.specs.Machines.{stores};
+ghost use Rattle.machine.specs.Machines.{SameStores, contents};
 ghost use Rattle.samples.specs.Beginning.{BegunAs};
+ghost use Rattle.samples.specs.declared.begin.Unfit.TheVariants.{Object, Stores as StoresUnfit};
+ghost use Rattle.std.specs.Prelude.{◌≡◌};
 
+use machine::Stores;
 use machine::machine::Machine;
 use machine::start::start;
 use object::checked::ObjectFault;
@@ -14,22 +17,27 @@ pub enum Unfit {
     Stores(Refusal),
 }
 
-// begin makes a machine of the bytes of a file, in four stores.
-pub fn begin<'a>(
-    object: &'a [u8],
-    data: &mut [i32],
-    heap: &mut [i32],
-    call: &mut [i32],
-    operand: &mut [i32],
-) -> Result<Machine<'a>, Unfit>
-    ensures { BegunAs result object.now (stores «data».old heap.old call.old operand.old)
-        (stores «data».new heap.new call.new operand.new) }
-{
-    match inspect(object) {
-        Ok(checked) => match start(checked, data, heap, call, operand) {
-            Ok(machine) => Ok(machine),
-            Err(refusal) => Err(Unfit::Stores(refusal)),
-        },
-        Err(fault) => Err(Unfit::Object(fault)),
+impl From<ObjectFault> for Unfit {
+    ghost from_gives = { λ fault unfit. unfit ≡ Object fault };
+
+    fn from(fault: ObjectFault) -> Unfit {
+        Unfit::Object(fault)
     }
+}
+
+impl From<Refusal> for Unfit {
+    ghost from_gives = { λ refusal unfit. unfit ≡ StoresUnfit refusal };
+
+    fn from(refusal: Refusal) -> Unfit {
+        Unfit::Stores(refusal)
+    }
+}
+
+// begin makes a machine of the bytes of a file, in four stores.
+pub fn begin<'a>(object: &'a [u8], stores: &mut Stores<'_>) -> Result<Machine<'a>, Unfit>
+    ensures same { SameStores stores.old stores.new }
+    ensures begun { BegunAs result object.now (contents stores.old) (contents stores.new) }
+{
+    let checked = inspect(object)?;
+    Ok(start(checked, stores)?)
 }

@@ -1,24 +1,19 @@
 ghost use Rattle.std.specs.Prelude.{◌≡◌, ◌<◌, Decides};
-ghost use Rattle.machine.specs.Machines.{Ready, lengths_of, state_in, stores};
+ghost use Rattle.machine.specs.Machines.{SameStores, contents, lengths_of, state_in};
 ghost use Rattle.machine.specs.Runs.{scene, view};
 ghost use Rattle.outcomes.specs.declared.Pause.TheVariants.{Budget};
 ghost use Rattle.samples.specs.Executing.{Drove, ExecutedAs};
 
 use crate::begin::{Unfit, begin};
 use console::Console;
+use machine::Stores;
 use machine::advance::advance;
 use machine::machine::{Machine, Progress};
-use outcomes::{Pause, Verdict};
+use outcomes::Pause;
+pub use outcomes::Stop;
 
 // PORTION is the budget of each run but the last.
 const PORTION: u64 = 10;
-
-// Stop is why the host goes no further.
-#[derive(Clone, Copy, PartialEq, Eq, Debug)]
-pub enum Stop {
-    Ended(Verdict),
-    Paused(Pause),
-}
 
 // Report is how far an execution came: why it stopped, and the steps of all its runs.
 #[derive(Clone, Copy, PartialEq, Eq, Debug)]
@@ -41,23 +36,20 @@ fn goes_on(pause: Pause, made: u64, budget: u64) -> bool
 fn drive<C: Console>(
     machine: Machine<'_>,
     budget: u64,
-    data: &mut [i32],
-    heap: &mut [i32],
-    call: &mut [i32],
-    operand: &mut [i32],
+    stores: &mut Stores<'_>,
     console: &mut C,
 ) -> Report
-    requires ready { Ready machine }
-    requires lengths { lengths_of (stores «data».old heap.old call.old operand.old) ≡ machine.lengths }
-    ensures { Drove result machine.entry.code.now budget
-        (scene (state_in machine.entry (stores «data».old heap.old call.old operand.old)) (view (C.waiting console.old) (C.written console.old) (C.room console.old)))
-        (stores «data».new heap.new call.new operand.new) (view (C.waiting console.new) (C.written console.new) (C.room console.new)) }
+    requires { lengths_of (contents stores.old) ≡ machine.lengths }
+    ensures same { SameStores stores.old stores.new }
+    ensures drove { Drove result machine.entry.code.now budget
+        (scene (state_in machine.entry (contents stores.old)) (view (C.waiting console.old) (C.written console.old) (C.room console.old)))
+        (contents stores.new) (view (C.waiting console.new) (C.written console.new) (C.room console.new)) }
 {
     let mut machine = machine;
     let mut made: u64 = 0;
     loop {
         let portion = (budget - made).min(PORTION);
-        match advance(machine, portion, data, heap, call, operand, console) {
+        match advance(machine, portion, stores, console) {
             Progress::Ended { verdict, steps } => {
                 return Report {
                     stop: Stop::Ended(verdict),
@@ -87,18 +79,14 @@ fn drive<C: Console>(
 pub fn execute<C: Console>(
     object: &[u8],
     budget: u64,
-    data: &mut [i32],
-    heap: &mut [i32],
-    call: &mut [i32],
-    operand: &mut [i32],
+    stores: &mut Stores<'_>,
     console: &mut C,
 ) -> Result<Report, Unfit>
-    ensures { ExecutedAs result object.now budget
-        (stores «data».old heap.old call.old operand.old) (view (C.waiting console.old) (C.written console.old) (C.room console.old))
-        (stores «data».new heap.new call.new operand.new) (view (C.waiting console.new) (C.written console.new) (C.room console.new)) }
+    ensures same { SameStores stores.old stores.new }
+    ensures executed { ExecutedAs result object.now budget
+        (contents stores.old) (view (C.waiting console.old) (C.written console.old) (C.room console.old))
+        (contents stores.new) (view (C.waiting console.new) (C.written console.new) (C.room console.new)) }
 {
-    match begin(object, data, heap, call, operand) {
-        Ok(machine) => Ok(drive(machine, budget, data, heap, call, operand, console)),
-        Err(unfit) => Err(unfit),
-    }
+    let machine = begin(object, stores)?;
+    Ok(drive(machine, budget, stores, console))
 }

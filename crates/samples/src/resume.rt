@@ -1,9 +1,10 @@
-ghost use Rattle.machine.specs.Machines.{stores};
+ghost use Rattle.machine.specs.Machines.{SameStores, contents};
 ghost use Rattle.machine.specs.Runs.{view};
-ghost use Rattle.samples.specs.Resuming.{LeftReady, ResumedAs, machine_of};
+ghost use Rattle.samples.specs.Resuming.{ResumedAs, machine_of};
 ghost use Rattle.std.specs.Prelude.{◌≡◌};
 
 use console::Console;
+use machine::Stores;
 use machine::advance::advance;
 use machine::machine::{Machine, Progress};
 
@@ -22,19 +23,14 @@ pub fn onward<'a>(progress: Progress<'a>) -> Option<Machine<'a>>
 pub fn resume<'a, C: Console>(
     progress: Progress<'a>,
     budget: u64,
-    data: &mut [i32],
-    heap: &mut [i32],
-    call: &mut [i32],
-    operand: &mut [i32],
+    stores: &mut Stores<'_>,
     console: &mut C,
 ) -> Option<Progress<'a>>
-    requires { LeftReady (machine_of progress) }
-    ensures { ResumedAs result (machine_of progress.entry) budget
-        (stores «data».old heap.old call.old operand.old) (view (C.waiting console.old) (C.written console.old) (C.room console.old))
-        (stores «data».new heap.new call.new operand.new) (view (C.waiting console.new) (C.written console.new) (C.room console.new)) }
+    ensures same { SameStores stores.old stores.new }
+    ensures resumed { ResumedAs result (machine_of progress.entry) budget
+        (contents stores.old) (view (C.waiting console.old) (C.written console.old) (C.room console.old))
+        (contents stores.new) (view (C.waiting console.new) (C.written console.new) (C.room console.new)) }
 {
-    match onward(progress) {
-        Some(machine) => Some(advance(machine, budget, data, heap, call, operand, console)),
-        None => None,
-    }
+    let machine = onward(progress)?;
+    Some(advance(machine, budget, stores, console))
 }

@@ -1,6 +1,7 @@
 use crate::begin::begin;
 use crate::execute::{Report, Stop, execute};
 use console::SliceConsole;
+use machine::Stores;
 use machine::advance::advance;
 use machine::machine::Progress;
 use machine::start::start;
@@ -24,18 +25,16 @@ fn counts_down_in_one_run(rt: HostRuntime) -> Result<(), Fail> {
     let mut operand = [7; 32];
     let mut text = [0; 9];
     let mut console = SliceConsole::new(&[], &mut text);
-    let Ok(machine) = begin(&COUNTDOWN, &mut [], &mut heap, &mut call, &mut operand) else {
+    let mut stores = Stores {
+        data: &mut [],
+        heap: &mut heap,
+        call: &mut call,
+        operand: &mut operand,
+    };
+    let Ok(machine) = begin(&COUNTDOWN, &mut stores) else {
         return Err(Fail::new("the object or a store is refused"));
     };
-    match advance(
-        machine,
-        35,
-        &mut [],
-        &mut heap,
-        &mut call,
-        &mut operand,
-        &mut console,
-    ) {
+    match advance(machine, 35, &mut stores, &mut console) {
         Progress::Ended {
             verdict: Verdict::Finished,
             steps: 35,
@@ -51,15 +50,13 @@ fn counts_down_in_one_run(rt: HostRuntime) -> Result<(), Fail> {
 fn counts_down_in_runs_of_ten(rt: HostRuntime) -> Result<(), Fail> {
     let mut text = [0; 9];
     let mut console = SliceConsole::new(&[], &mut text);
-    let Ok(report) = execute(
-        &COUNTDOWN,
-        99,
-        &mut [],
-        &mut [5],
-        &mut [6; 3],
-        &mut [7; 32],
-        &mut console,
-    ) else {
+    let mut stores = Stores {
+        data: &mut [],
+        heap: &mut [5],
+        call: &mut [6; 3],
+        operand: &mut [7; 32],
+    };
+    let Ok(report) = execute(&COUNTDOWN, 99, &mut stores, &mut console) else {
         return Err(Fail::new("the object or a store is refused"));
     };
     assert_eq!(rt;
@@ -78,10 +75,16 @@ fn refused_start_changes_no_store(rt: HostRuntime) -> Result<(), Fail> {
     let mut heap = [5];
     let mut call = [6; 3];
     let mut operand = [7; 31];
+    let mut stores = Stores {
+        data: &mut [],
+        heap: &mut heap,
+        call: &mut call,
+        operand: &mut operand,
+    };
     let Ok(checked) = inspect(&COUNTDOWN) else {
         return Err(Fail::new("the object is refused"));
     };
-    let Err(refusal) = start(checked, &mut [], &mut heap, &mut call, &mut operand) else {
+    let Err(refusal) = start(checked, &mut stores) else {
         return Err(Fail::new("no store is refused"));
     };
     assert_eq!(rt; refusal, Refusal::UnfitStore);
@@ -98,34 +101,37 @@ fn refused_run_changes_nothing(rt: HostRuntime) -> Result<(), Fail> {
     let mut operand = [7; 32];
     let mut text = [0; 9];
     let mut console = SliceConsole::new(&[], &mut text);
-    let Ok(machine) = begin(&COUNTDOWN, &mut [], &mut heap, &mut call, &mut operand) else {
+    let mut stores = Stores {
+        data: &mut [],
+        heap: &mut heap,
+        call: &mut call,
+        operand: &mut operand,
+    };
+    let Ok(machine) = begin(&COUNTDOWN, &mut stores) else {
         return Err(Fail::new("the object or a store is refused"));
     };
     let mut longer = [8; 33];
-    let Progress::Refused { refusal, machine } = advance(
-        machine,
-        35,
-        &mut [],
-        &mut heap,
-        &mut call,
-        &mut longer,
-        &mut console,
-    ) else {
+    let mut stores = Stores {
+        data: &mut [],
+        heap: &mut heap,
+        call: &mut call,
+        operand: &mut longer,
+    };
+    let Progress::Refused { refusal, machine } = advance(machine, 35, &mut stores, &mut console)
+    else {
         return Err(Fail::new("the longer store is not refused"));
     };
     assert_eq!(rt; refusal, Refusal::StoreLengthChanged);
     assert_eq!(rt; call, [-1, 0, 0]);
     assert_eq!(rt; longer, [8; 33]);
     assert_eq!(rt; console.written_bytes(), b"".as_slice());
-    match advance(
-        machine,
-        35,
-        &mut [],
-        &mut heap,
-        &mut call,
-        &mut operand,
-        &mut console,
-    ) {
+    let mut stores = Stores {
+        data: &mut [],
+        heap: &mut heap,
+        call: &mut call,
+        operand: &mut operand,
+    };
+    match advance(machine, 35, &mut stores, &mut console) {
         Progress::Ended {
             verdict: Verdict::Finished,
             steps: 35,
@@ -143,21 +149,25 @@ fn new_array_is_cleared(rt: HostRuntime) -> Result<(), Fail> {
     let mut call = [6];
     let mut operand = [7; 32];
     let mut console = SliceConsole::new(&[], &mut []);
-    let Ok(machine) = begin(&TWO_WORDS, &mut [], &mut heap, &mut call, &mut operand) else {
+    let mut stores = Stores {
+        data: &mut [],
+        heap: &mut heap,
+        call: &mut call,
+        operand: &mut operand,
+    };
+    let Ok(machine) = begin(&TWO_WORDS, &mut stores) else {
         return Err(Fail::new("the object or a store is refused"));
     };
     assert_eq!(rt; heap, [0; 5]);
     // only what a host writes into the heap before a run can make it differ from 0 where it is free
     heap = [9; 5];
-    match advance(
-        machine,
-        9,
-        &mut [],
-        &mut heap,
-        &mut call,
-        &mut operand,
-        &mut console,
-    ) {
+    let mut stores = Stores {
+        data: &mut [],
+        heap: &mut heap,
+        call: &mut call,
+        operand: &mut operand,
+    };
+    match advance(machine, 9, &mut stores, &mut console) {
         Progress::Ended {
             verdict: Verdict::MissingReturn,
             steps: 3,
@@ -176,46 +186,48 @@ fn second_refused_run_changes_nothing(rt: HostRuntime) -> Result<(), Fail> {
     let mut operand = [7; 32];
     let mut text = [0; 9];
     let mut console = SliceConsole::new(&[], &mut text);
-    let Ok(machine) = begin(&COUNTDOWN, &mut [], &mut heap, &mut call, &mut operand) else {
+    let mut stores = Stores {
+        data: &mut [],
+        heap: &mut heap,
+        call: &mut call,
+        operand: &mut operand,
+    };
+    let Ok(machine) = begin(&COUNTDOWN, &mut stores) else {
         return Err(Fail::new("the object or a store is refused"));
     };
     let mut longer = [8; 33];
-    let Progress::Refused { refusal, machine } = advance(
-        machine,
-        35,
-        &mut [],
-        &mut heap,
-        &mut call,
-        &mut longer,
-        &mut console,
-    ) else {
+    let mut stores = Stores {
+        data: &mut [],
+        heap: &mut heap,
+        call: &mut call,
+        operand: &mut longer,
+    };
+    let Progress::Refused { refusal, machine } = advance(machine, 35, &mut stores, &mut console)
+    else {
         return Err(Fail::new("the longer store is not refused"));
     };
     assert_eq!(rt; refusal, Refusal::StoreLengthChanged);
     assert_eq!(rt; call, [-1, 0, 0]);
     assert_eq!(rt; longer, [8; 33]);
     assert_eq!(rt; console.written_bytes(), b"".as_slice());
-    let Progress::Refused { refusal, machine } = advance(
-        machine,
-        35,
-        &mut [8],
-        &mut heap,
-        &mut call,
-        &mut operand,
-        &mut console,
-    ) else {
+    let mut stores = Stores {
+        data: &mut [8],
+        heap: &mut heap,
+        call: &mut call,
+        operand: &mut operand,
+    };
+    let Progress::Refused { refusal, machine } = advance(machine, 35, &mut stores, &mut console)
+    else {
         return Err(Fail::new("the longer data store is not refused"));
     };
     assert_eq!(rt; refusal, Refusal::StoreLengthChanged);
-    match advance(
-        machine,
-        35,
-        &mut [],
-        &mut heap,
-        &mut call,
-        &mut operand,
-        &mut console,
-    ) {
+    let mut stores = Stores {
+        data: &mut [],
+        heap: &mut heap,
+        call: &mut call,
+        operand: &mut operand,
+    };
+    match advance(machine, 35, &mut stores, &mut console) {
         Progress::Ended {
             verdict: Verdict::Finished,
             steps: 35,

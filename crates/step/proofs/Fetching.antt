@@ -1,5 +1,6 @@
 -- The instruction at pc, inside and outside the code.
-use Rattle.std.proofs.Common.{◌≡◌, ℕ, ◌+◌, ◌<◌, ◌≤◌, true, false, List, length, drop, ℤ, pos, negsuc, ◌+ℤ◌, nat_abs, IfSome, Some, None, Option, sym, refl, ap, arith}
+use Rattle.std.proofs.Common.{◌≡◌, ℕ, ◌+◌, ◌<◌, ◌≤◌, true, false, List, length, drop, ℤ, pos, negsuc, ◌+ℤ◌, nat_abs, IfSome, Some, None, Ok, Err, Option, Result, sym, refl, ap, arith}
+use Rattle.std.specs.Option.{ok_or}
 use lib.Signed.{lt_z}
 use Rattle.std.proofs.lemmas.List.{drop_all}
 use Rattle.std.proofs.lemmas.Int.{ints}
@@ -31,3 +32,12 @@ whichever (Some x) p = p
 pub next_is : (pc : ℤ) (size : ℕ) → InCode pc → pos (nat_abs pc + size) ≡ pc +ℤ pos size
 next_is (pos n) size h = refl
 next_is (negsuc n) size h = absurd (grind (arith, ints))
+
+-- what an option was whose absence is an error
+pub none_is_err : {X E : Type 0} (o : Option X) (e : E) (r : Result X E) (y : E) → r ≡ ok_or o e → r ≡ Err y → (o ≡ None) × (y ≡ e)
+none_is_err None e r y p q = (refl, cc)
+none_is_err (Some x) e r y p q = let z : ◌≡◌ {A = ℕ} 0 1 = cc in absurd (omega arith)
+
+pub some_is_ok : {X E : Type 0} (o : Option X) (e : E) (r : Result X E) (x : X) → r ≡ ok_or o e → r ≡ Ok x → o ≡ Some x
+some_is_ok None e r x p q = let z : ◌≡◌ {A = ℕ} 0 1 = cc in absurd (omega arith)
+some_is_ok (Some y) e r x p q = cc

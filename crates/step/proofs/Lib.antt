@@ -1,5 +1,6 @@
 pub mod Elements
+pub mod Entering
 pub mod Fetching
-pub mod Soundness
+pub mod Passing
 pub mod Stacking
 pub mod Written

@@ -3,5 +3,5 @@ pub mod Stacks
 pub mod Arrays
 pub mod Calls
 pub mod Perform
-pub mod Sound
+pub mod Loans
 pub mod Promises

@@ -1,18 +1,21 @@
--- What a function that performs an instruction promises: the instruction's step, whatever the stores hold that it is not lent.
-use Rattle.std.specs.Prelude.{◌≡◌, ℕ, ◌-◌, ◌<◌, ◌≤◌, cond, List, length, ℤ, pos, negsuc, ◌≤ℤ◌, ◌<ℤ◌, Some, None, Ok, Err, Option, Result, nat_lt}
+-- What the methods of an interpreter promise.
+use Rattle.std.specs.Prelude.{◌≡◌, ℕ, ◌-◌, ◌<◌, ◌≤◌, List, length, take, drop, ℤ, pos, ◌≤ℤ◌, ◌<ℤ◌, Ok, Err, Result, ◌≢◌}
 use Rattle.outcomes.specs.declared.Verdict.{Verdict}
+use Rattle.outcomes.specs.declared.Verdict.TheVariants.{IllegalStep}
 use Rattle.words.specs.declared.printing.Kind.{Kind}
 use Rattle.words.specs.Bytes.{kept}
 use Rattle.words.specs.Printing.{printed_as}
 use Rattle.instructions.specs.declared.Instruction.{Instruction}
+use Rattle.step.specs.declared.interpreter.Interpreter.{Interpreter}
 use Rattle.step.specs.declared.registers.Registers.{Registers}
 use Rattle.step.specs.declared.registers.Element.{Element}
 use Rattle.step.specs.declared.registers.Effect.{Effect}
 use Rattle.step.specs.declared.registers.Effect.TheVariants.{Moved, Takes, Writes}
-use Rattle.step.specs.State.{State, state, Step, moves, takes, writes, ends, at, with_operand}
+use Rattle.step.specs.State.{State, state, Step, moves, takes, writes, ends, at, with_operand, with_call}
 use Rattle.step.specs.Stacks.{pushed}
-use Rattle.step.specs.Arrays.{element}
-use Rattle.step.specs.Perform.{perform}
+use Rattle.step.specs.Arrays.{element, over}
+use Rattle.step.specs.Loans.{SameStore}
+use Rattle.step.specs.Perform.{perform, step}
 
 -- the state after a print: the value and the width have left the operand stack
 abbrev pub printed_from : ℕ → State → State
@@ -25,34 +28,37 @@ Did (Ok (Takes k next)) step before after = (step ≡ takes (λ w. at (pos next)
 Did (Ok (Writes k v w next)) step before after = (step ≡ writes (printed_as k v w) (printed_from next before)) × (2 ≤ before.registers.height) × (after ≡ before)
 Did (Err verdict) step before after = (step ≡ ends verdict) × (after ≡ before)
 
--- a function that is lent the registers alone
-abbrev pub OnRegisters : Instruction → ℕ → Result Effect Verdict → Registers → Registers → Type 0
-OnRegisters i next o r r' = (d h c p : List ℤ) → Did o (perform i (pos next) (state r d h c p)) (state r d h c p) (state r' d h c p)
+-- the registers that an interpreter has, and its registers and stores
+abbrev pub registers_of : Interpreter → Registers
+registers_of i = record { pc = i.pc; frame = i.frame; top = i.top; height = i.height; free = i.free }
 
--- one that is lent the operand store too
-abbrev pub OnOperand : Instruction → ℕ → Result Effect Verdict → Registers → List ℤ → Registers → List ℤ → Type 0
-OnOperand i next o r p r' p' = (d h c : List ℤ) → Did o (perform i (pos next) (state r d h c p)) (state r d h c p) (state r' d h c p')
+abbrev pub state_of : Interpreter → State
+state_of i = state (registers_of i) i.«data».now i.heap.now i.call.now i.operand.now
 
--- the operand and the data store
-abbrev pub OnData : Instruction → ℕ → Result Effect Verdict → Registers → List ℤ → List ℤ → Registers → List ℤ → List ℤ → Type 0
-OnData i next o r d p r' d' p' = (h c : List ℤ) → Did o (perform i (pos next) (state r d h c p)) (state r d h c p) (state r' d' h c p')
+-- code and stores are the ones that were lent
+pub record SameLoans (i j : Interpreter) : Type 0 where
+  pub code : j.code.now ≡ i.code.now
+  pub datas : SameStore i.«data» j.«data»
+  pub heap : SameStore i.heap j.heap
+  pub call : SameStore i.call j.call
+  pub operand : SameStore i.operand j.operand
 
--- the operand store and the heap
-abbrev pub OnHeap : Instruction → ℕ → Result Effect Verdict → Registers → List ℤ → List ℤ → Registers → List ℤ → List ℤ → Type 0
-OnHeap i next o r h p r' h' p' = (d c : List ℤ) → Did o (perform i (pos next) (state r d h c p)) (state r d h c p) (state r' d h' c p')
+-- what a method that performs an instruction does: the instruction's step
+abbrev pub Performed : Instruction → ℕ → Result Effect Verdict → Interpreter → Interpreter → Type 0
+Performed x next o i j = SameLoans i j × Did o (perform x (pos next) (state_of i)) (state_of i) (state_of j)
 
--- the operand and the call store
-abbrev pub OnCall : Instruction → ℕ → Result Effect Verdict → Registers → List ℤ → List ℤ → Registers → List ℤ → List ℤ → Type 0
-OnCall i next o r c p r' c' p' = (d h : List ℤ) → Did o (perform i (pos next) (state r d h c p)) (state r d h c p) (state r' d h c' p')
+-- what step does: the step at the next instruction
+abbrev pub Stepped : Result Effect Verdict → Interpreter → Interpreter → Type 0
+Stepped o i j = SameLoans i j × Did o (step i.code.now (state_of i)) (state_of i) (state_of j)
 
--- the call store alone
-abbrev pub OnCallAlone : Instruction → ℕ → Result Effect Verdict → Registers → List ℤ → Registers → List ℤ → Type 0
-OnCallAlone i next o r c r' c' = (d h p : List ℤ) → Did o (perform i (pos next) (state r d h c p)) (state r d h c p) (state r' d h c' p)
+-- an integer as a place in a store of so many words, or verdict 9
+abbrev pub PlaceFound : Result ℕ Verdict → ℤ → ℕ → Type 0
+PlaceFound (Ok i) z size = (i < size) × (z ≡ pos i)
+PlaceFound (Err verdict) z size = (verdict ≡ IllegalStep) × ((i : ℕ) → i < size → z ≢ pos i)
 
--- an integer as a place in a store of so many words
-abbrev pub place_in : ℤ → ℕ → Option ℕ
-place_in (pos i) size = cond (nat_lt i size) (Some i) None
-place_in (negsuc i) size = None
+-- so many operands from a place on, as words of the call store from another place on
+abbrev pub ArgumentsPassed : ℕ → ℕ → ℕ → Interpreter → Interpreter → Type 0
+ArgumentsPassed first left count i j = SameLoans i j × (state_of j ≡ with_call i.frame i.top (over i.call.now first (take count (drop left i.operand.now))) (state_of i))
 
 -- an offset in a code of at most 8,192 bytes
 abbrev pub InCode : ℤ → Type 0
@@ -64,8 +70,8 @@ ElementFound kind reference index free heap (Ok e) = (go : ℕ → ℕ → Step)
 ElementFound kind reference index free heap (Err verdict) = (go : ℕ → ℕ → Step) → element kind reference index free heap go ≡ ends verdict
 
 -- the end of a read, and of a print
-abbrev pub Received : Kind → ℤ → ℕ → Registers → List ℤ → Registers → List ℤ → Type 0
-Received kind word next r p r' p' = (d h c : List ℤ) → state r' d h c p' ≡ at (pos next) (pushed (kept kind word) (state r d h c p))
+abbrev pub Received : Kind → ℤ → ℕ → Interpreter → Interpreter → Type 0
+Received kind word next i j = SameLoans i j × (state_of j ≡ at (pos next) (pushed (kept kind word) (state_of i)))
 
-abbrev pub Dropped : ℕ → Registers → Registers → Type 0
-Dropped next r r' = (d h c p : List ℤ) → state r' d h c p ≡ printed_from next (state r d h c p)
+abbrev pub Dropped : ℕ → Interpreter → Interpreter → Type 0
+Dropped next i j = SameLoans i j × (state_of j ≡ printed_from next (state_of i))

@@ -1,9 +1,10 @@
 ghost use Rattle.std.specs.Prelude.{◌≡◌, ◌<◌, ◌≤◌, length, IfOk};
 ghost use Rattle.step.specs.Arrays as spec;
-ghost use Rattle.step.specs.Promises.{ElementFound, OnHeap, place_in};
+ghost use Rattle.step.specs.Promises.{ElementFound, Performed, PlaceFound};
 
 use crate::blocks::write_block;
-use crate::registers::{Effect, Element, Registers};
+use crate::interpreter::Interpreter;
+use crate::registers::{Effect, Element};
 use instructions::Instruction;
 use outcomes::Verdict;
 use words::bytes::{byte_of, low_byte, with_byte};
@@ -16,49 +17,8 @@ fn array_words(kind: Kind, n: usize) -> usize
 {
     match kind {
         Kind::Int => n + 1,
-        Kind::Char => (n + 3) / 4 + 1,
+        Kind::Char => n.div_ceil(4) + 1,
     }
-}
-
-// new_array performs the making of an array.
-pub(crate) fn new_array(
-    r: &mut Registers,
-    heap: &mut [i32],
-    operand: &mut [i32],
-    kind: Kind,
-    next: u16,
-) -> Result<Effect, Verdict>
-    requires height { r.old.height ≤ length operand.old }
-    requires free { r.old.free ≤ length heap.old }
-    requires short { length heap.old ≤ 1048576 }
-    ensures { OnHeap (Instruction.NewArray kind) next result r.old heap.old operand.old r.new heap.new operand.new }
-{
-    if r.height < 1 {
-        return Err(Verdict::IllegalStep);
-    }
-    let elements = operand[r.height - 1];
-    if elements < 0 {
-        return Err(Verdict::NegativeLength);
-    }
-    let words = array_words(kind, elements as usize);
-    if heap.len() - r.free < words {
-        return Err(Verdict::HeapExhausted);
-    }
-    write_block(heap, r.free, elements, &[], words - 1);
-    operand[r.height - 1] = r.free as i32;
-    r.free += words;
-    r.pc = next as i32;
-    Ok(Effect::Moved)
-}
-
-// index_below gives a word as an index below a bound.
-fn index_below(word: i32, bound: usize) -> Option<usize>
-    ensures { result ≡ place_in word bound }
-{
-    if word < 0 || word as usize >= bound {
-        return None;
-    }
-    Some(word as usize)
 }
 
 // element_word gives how many words behind the length word an element stands.
@@ -71,68 +31,6 @@ fn element_word(kind: Kind, index: usize) -> usize
         Kind::Int => index + 1,
         Kind::Char => index / 4 + 1,
     }
-}
-
-// element finds the heap word of an array's element.
-fn element(
-    free: usize,
-    heap: &[i32],
-    kind: Kind,
-    reference: i32,
-    index: i32,
-) -> Result<Element, Verdict>
-    requires free { free ≤ length heap.now }
-    requires short { length heap.now ≤ 1048576 }
-    ensures found { ElementFound kind reference index free heap.now result }
-    ensures within { IfOk result (λ e. e.word < free) }
-{
-    if reference == 0 {
-        return Err(Verdict::NullReference);
-    }
-    if index < 0 {
-        return Err(Verdict::IndexOutOfRange);
-    }
-    let Some(at) = index_below(reference, free) else {
-        return Err(Verdict::IllegalStep);
-    };
-    if index >= heap[at] {
-        return Err(Verdict::IndexOutOfRange);
-    }
-    let index = index as usize;
-    let word = at + element_word(kind, index);
-    if word >= free {
-        return Err(Verdict::IllegalStep);
-    }
-    Ok(Element { word, index })
-}
-
-// array_load performs a load of an element.
-pub(crate) fn array_load(
-    r: &mut Registers,
-    heap: &[i32],
-    operand: &mut [i32],
-    kind: Kind,
-    next: u16,
-) -> Result<Effect, Verdict>
-    requires height { r.old.height ≤ length operand.old }
-    requires free { r.old.free ≤ length heap.now }
-    requires short { length heap.now ≤ 1048576 }
-    ensures { OnHeap (Instruction.ArrayLoad kind) next result r.old heap.now operand.old r.new heap.now operand.new }
-{
-    if r.height < 2 {
-        return Err(Verdict::IllegalStep);
-    }
-    let at = element(
-        r.free,
-        heap,
-        kind,
-        operand[r.height - 2],
-        operand[r.height - 1],
-    )?;
-    operand[r.height - 2] = element_in(kind, at.index, heap[at.word]);
-    r.height -= 1;
-    r.pc = next as i32;
-    Ok(Effect::Moved)
 }
 
 // element_in gives an element out of its word.
@@ -155,57 +53,107 @@ fn with_element(kind: Kind, index: usize, value: i32, word: i32) -> i32
     }
 }
 
-// array_store performs a store to an element.
-pub(crate) fn array_store(
-    r: &mut Registers,
-    heap: &mut [i32],
-    operand: &[i32],
-    kind: Kind,
-    next: u16,
-) -> Result<Effect, Verdict>
-    requires height { r.old.height ≤ length operand.now }
-    requires free { r.old.free ≤ length heap.old }
-    requires short { length heap.old ≤ 1048576 }
-    ensures { OnHeap (Instruction.ArrayStore kind) next result r.old heap.old operand.now r.new heap.new operand.now }
-{
-    if r.height < 3 {
-        return Err(Verdict::IllegalStep);
+impl Interpreter<'_> {
+    // new_array performs the making of an array.
+    pub(crate) fn new_array(&mut self, kind: Kind, next: u16) -> Result<Effect, Verdict>
+        ensures { Performed (Instruction.NewArray kind) next result self.old self.new }
+    {
+        if self.height < 1 {
+            return Err(Verdict::IllegalStep);
+        }
+        let elements = self.operand[self.height - 1];
+        if elements < 0 {
+            return Err(Verdict::NegativeLength);
+        }
+        let words = array_words(kind, elements as usize);
+        if self.heap.len() - self.free < words {
+            return Err(Verdict::HeapExhausted);
+        }
+        write_block(self.heap, self.free, elements, &[], words - 1);
+        self.operand[self.height - 1] = self.free as i32;
+        self.free += words;
+        self.pc = next as i32;
+        Ok(Effect::Moved)
     }
-    let at = element(
-        r.free,
-        heap,
-        kind,
-        operand[r.height - 3],
-        operand[r.height - 2],
-    )?;
-    heap[at.word] = with_element(kind, at.index, operand[r.height - 1], heap[at.word]);
-    r.height -= 3;
-    r.pc = next as i32;
-    Ok(Effect::Moved)
-}
 
-// array_length performs a load of an array's length.
-pub(crate) fn array_length(
-    r: &mut Registers,
-    heap: &[i32],
-    operand: &mut [i32],
-    next: u16,
-) -> Result<Effect, Verdict>
-    requires height { r.old.height ≤ length operand.old }
-    requires free { r.old.free ≤ length heap.now }
-    ensures { OnHeap Instruction.ArrayLength next result r.old heap.now operand.old r.new heap.now operand.new }
-{
-    if r.height < 1 {
-        return Err(Verdict::IllegalStep);
+    // used_word gives a word of the heap as the place that it refers to, where that is in use.
+    fn used_word(&self, word: i32) -> Result<usize, Verdict>
+        ensures { PlaceFound result word self.now.free }
+    {
+        if word < 0 || word as usize >= self.free {
+            return Err(Verdict::IllegalStep);
+        }
+        Ok(word as usize)
     }
-    let reference = operand[r.height - 1];
-    if reference == 0 {
-        return Err(Verdict::NullReference);
+
+    // element finds the heap word of an array's element.
+    fn element(&self, kind: Kind, reference: i32, index: i32) -> Result<Element, Verdict>
+        ensures found { ElementFound kind reference index self.now.free self.now.heap.now result }
+        ensures within { IfOk result (λ e. e.word < self.now.free) }
+    {
+        if reference == 0 {
+            return Err(Verdict::NullReference);
+        }
+        if index < 0 {
+            return Err(Verdict::IndexOutOfRange);
+        }
+        let at = self.used_word(reference)?;
+        if index >= self.heap[at] {
+            return Err(Verdict::IndexOutOfRange);
+        }
+        let index = index as usize;
+        let word = at + element_word(kind, index);
+        if word >= self.free {
+            return Err(Verdict::IllegalStep);
+        }
+        Ok(Element { word, index })
     }
-    let Some(at) = index_below(reference, r.free) else {
-        return Err(Verdict::IllegalStep);
-    };
-    operand[r.height - 1] = heap[at];
-    r.pc = next as i32;
-    Ok(Effect::Moved)
+
+    // array_load performs a load of an element.
+    pub(crate) fn array_load(&mut self, kind: Kind, next: u16) -> Result<Effect, Verdict>
+        ensures { Performed (Instruction.ArrayLoad kind) next result self.old self.new }
+    {
+        if self.height < 2 {
+            return Err(Verdict::IllegalStep);
+        }
+        let (reference, index) = (self.operand[self.height - 2], self.operand[self.height - 1]);
+        let at = self.element(kind, reference, index)?;
+        self.operand[self.height - 2] = element_in(kind, at.index, self.heap[at.word]);
+        self.height -= 1;
+        self.pc = next as i32;
+        Ok(Effect::Moved)
+    }
+
+    // array_store performs a store to an element.
+    pub(crate) fn array_store(&mut self, kind: Kind, next: u16) -> Result<Effect, Verdict>
+        ensures { Performed (Instruction.ArrayStore kind) next result self.old self.new }
+    {
+        if self.height < 3 {
+            return Err(Verdict::IllegalStep);
+        }
+        let (reference, index) = (self.operand[self.height - 3], self.operand[self.height - 2]);
+        let at = self.element(kind, reference, index)?;
+        let value = self.operand[self.height - 1];
+        self.heap[at.word] = with_element(kind, at.index, value, self.heap[at.word]);
+        self.height -= 3;
+        self.pc = next as i32;
+        Ok(Effect::Moved)
+    }
+
+    // array_length performs a load of an array's length.
+    pub(crate) fn array_length(&mut self, next: u16) -> Result<Effect, Verdict>
+        ensures { Performed Instruction.ArrayLength next result self.old self.new }
+    {
+        if self.height < 1 {
+            return Err(Verdict::IllegalStep);
+        }
+        let reference = self.operand[self.height - 1];
+        if reference == 0 {
+            return Err(Verdict::NullReference);
+        }
+        let at = self.used_word(reference)?;
+        self.operand[self.height - 1] = self.heap[at];
+        self.pc = next as i32;
+        Ok(Effect::Moved)
+    }
 }

@@ -1,193 +1,157 @@
-ghost use Rattle.std.specs.Prelude.{◌≤◌, length};
-ghost use Rattle.step.specs.Promises.{InCode, OnOperand, OnRegisters};
+ghost use Rattle.step.specs.Promises.{InCode, Performed};
 
-use crate::registers::{Effect, Registers};
+use crate::interpreter::Interpreter;
+use crate::registers::Effect;
 use instructions::Instruction;
 use outcomes::Verdict;
 use words::arithmetic::{Operator, Relation, negation};
 use words::printing::Kind;
 
-// push performs a constant.
-pub(crate) fn push(
-    r: &mut Registers,
-    operand: &mut [i32],
-    word: i32,
-    next: u16,
-) -> Result<Effect, Verdict>
-    requires { r.old.height ≤ length operand.old }
-    ensures { OnOperand (Instruction.Const word) next result r.old operand.old r.new operand.new }
-{
-    if r.height >= operand.len() {
-        return Err(Verdict::IllegalStep);
+impl Interpreter<'_> {
+    // constant performs a constant.
+    pub(crate) fn constant(&mut self, word: i32, next: u16) -> Result<Effect, Verdict>
+        ensures { Performed (Instruction.Const word) next result self.old self.new }
+    {
+        if self.height >= self.operand.len() {
+            return Err(Verdict::IllegalStep);
+        }
+        self.operand[self.height] = word;
+        self.height += 1;
+        self.pc = next as i32;
+        Ok(Effect::Moved)
     }
-    operand[r.height] = word;
-    r.height += 1;
-    r.pc = next as i32;
-    Ok(Effect::Moved)
-}
 
-// compute performs an operator on the two uppermost operands.
-pub(crate) fn compute(
-    r: &mut Registers,
-    operand: &mut [i32],
-    operator: Operator,
-    next: u16,
-) -> Result<Effect, Verdict>
-    requires { r.old.height ≤ length operand.old }
-    ensures { OnOperand (Instruction.Binary operator) next result r.old operand.old r.new operand.new }
-{
-    if r.height < 2 {
-        return Err(Verdict::IllegalStep);
+    // compute performs an operator on the two uppermost operands.
+    pub(crate) fn compute(&mut self, operator: Operator, next: u16) -> Result<Effect, Verdict>
+        ensures { Performed (Instruction.Binary operator) next result self.old self.new }
+    {
+        if self.height < 2 {
+            return Err(Verdict::IllegalStep);
+        }
+        let (a, b) = (self.operand[self.height - 2], self.operand[self.height - 1]);
+        let word = operator.compute(a, b).ok_or(Verdict::DivisionByZero)?;
+        self.operand[self.height - 2] = word;
+        self.height -= 1;
+        self.pc = next as i32;
+        Ok(Effect::Moved)
     }
-    let Some(word) = operator.compute(operand[r.height - 2], operand[r.height - 1]) else {
-        return Err(Verdict::DivisionByZero);
-    };
-    operand[r.height - 2] = word;
-    r.height -= 1;
-    r.pc = next as i32;
-    Ok(Effect::Moved)
-}
 
-// negate performs the negation of the uppermost operand.
-pub(crate) fn negate(r: &mut Registers, operand: &mut [i32], next: u16) -> Result<Effect, Verdict>
-    requires { r.old.height ≤ length operand.old }
-    ensures { OnOperand Instruction.Negate next result r.old operand.old r.new operand.new }
-{
-    if r.height < 1 {
-        return Err(Verdict::IllegalStep);
+    // negate performs the negation of the uppermost operand.
+    pub(crate) fn negate(&mut self, next: u16) -> Result<Effect, Verdict>
+        ensures { Performed Instruction.Negate next result self.old self.new }
+    {
+        if self.height < 1 {
+            return Err(Verdict::IllegalStep);
+        }
+        self.operand[self.height - 1] = negation(self.operand[self.height - 1]);
+        self.pc = next as i32;
+        Ok(Effect::Moved)
     }
-    operand[r.height - 1] = negation(operand[r.height - 1]);
-    r.pc = next as i32;
-    Ok(Effect::Moved)
-}
 
-// discard performs a pop.
-pub(crate) fn discard(r: &mut Registers, next: u16) -> Result<Effect, Verdict>
-    ensures { OnRegisters Instruction.Pop next result r.old r.new }
-{
-    if r.height < 1 {
-        return Err(Verdict::IllegalStep);
+    // pop performs a pop.
+    pub(crate) fn pop(&mut self, next: u16) -> Result<Effect, Verdict>
+        ensures { Performed Instruction.Pop next result self.old self.new }
+    {
+        if self.height < 1 {
+            return Err(Verdict::IllegalStep);
+        }
+        self.height -= 1;
+        self.pc = next as i32;
+        Ok(Effect::Moved)
     }
-    r.height -= 1;
-    r.pc = next as i32;
-    Ok(Effect::Moved)
-}
 
-// duplicate performs a dup.
-pub(crate) fn duplicate(
-    r: &mut Registers,
-    operand: &mut [i32],
-    next: u16,
-) -> Result<Effect, Verdict>
-    requires { r.old.height ≤ length operand.old }
-    ensures { OnOperand Instruction.Dup next result r.old operand.old r.new operand.new }
-{
-    if r.height < 1 || r.height >= operand.len() {
-        return Err(Verdict::IllegalStep);
+    // dup performs a dup.
+    pub(crate) fn dup(&mut self, next: u16) -> Result<Effect, Verdict>
+        ensures { Performed Instruction.Dup next result self.old self.new }
+    {
+        if self.height < 1 || self.height >= self.operand.len() {
+            return Err(Verdict::IllegalStep);
+        }
+        self.operand[self.height] = self.operand[self.height - 1];
+        self.height += 1;
+        self.pc = next as i32;
+        Ok(Effect::Moved)
     }
-    operand[r.height] = operand[r.height - 1];
-    r.height += 1;
-    r.pc = next as i32;
-    Ok(Effect::Moved)
-}
 
-// duplicate_pair performs a dup2.
-pub(crate) fn duplicate_pair(
-    r: &mut Registers,
-    operand: &mut [i32],
-    next: u16,
-) -> Result<Effect, Verdict>
-    requires { r.old.height ≤ length operand.old }
-    ensures { OnOperand Instruction.Dup2 next result r.old operand.old r.new operand.new }
-{
-    if r.height < 2 || operand.len() - r.height < 2 {
-        return Err(Verdict::IllegalStep);
+    // dup2 performs a dup2.
+    pub(crate) fn dup2(&mut self, next: u16) -> Result<Effect, Verdict>
+        ensures { Performed Instruction.Dup2 next result self.old self.new }
+    {
+        if self.height < 2 || self.operand.len() - self.height < 2 {
+            return Err(Verdict::IllegalStep);
+        }
+        self.operand[self.height] = self.operand[self.height - 2];
+        self.operand[self.height + 1] = self.operand[self.height - 1];
+        self.height += 2;
+        self.pc = next as i32;
+        Ok(Effect::Moved)
     }
-    operand[r.height] = operand[r.height - 2];
-    operand[r.height + 1] = operand[r.height - 1];
-    r.height += 2;
-    r.pc = next as i32;
-    Ok(Effect::Moved)
-}
 
-// jump_if performs a conditional jump, which compares the two uppermost operands.
-pub(crate) fn jump_if(
-    r: &mut Registers,
-    operand: &[i32],
-    relation: Relation,
-    by: i16,
-    next: u16,
-) -> Result<Effect, Verdict>
-    requires height { r.old.height ≤ length operand.now }
-    requires inside { InCode r.old.pc }
-    ensures { OnOperand (Instruction.JumpIf relation by) next result r.old operand.now r.new operand.now }
-{
-    if r.height < 2 {
-        return Err(Verdict::IllegalStep);
+    // jump_if performs a conditional jump, which compares the two uppermost operands.
+    pub(crate) fn jump_if(
+        &mut self,
+        relation: Relation,
+        by: i16,
+        next: u16,
+    ) -> Result<Effect, Verdict>
+        requires { InCode self.old.pc }
+        ensures { Performed (Instruction.JumpIf relation by) next result self.old self.new }
+    {
+        if self.height < 2 {
+            return Err(Verdict::IllegalStep);
+        }
+        let (a, b) = (self.operand[self.height - 2], self.operand[self.height - 1]);
+        self.height -= 2;
+        if relation.holds(a, b) {
+            self.pc += by as i32;
+        } else {
+            self.pc = next as i32;
+        }
+        Ok(Effect::Moved)
     }
-    let holds = relation.holds(operand[r.height - 2], operand[r.height - 1]);
-    r.height -= 2;
-    if holds {
-        r.pc += by as i32;
-        return Ok(Effect::Moved);
+
+    // jump performs an unconditional jump.
+    pub(crate) fn jump(&mut self, by: i16, next: u16) -> Result<Effect, Verdict>
+        requires { InCode self.old.pc }
+        ensures { Performed (Instruction.Jump by) next result self.old self.new }
+    {
+        self.pc += by as i32;
+        Ok(Effect::Moved)
     }
-    r.pc = next as i32;
-    Ok(Effect::Moved)
-}
 
-// jump performs an unconditional jump.
-pub(crate) fn jump(r: &mut Registers, by: i16, next: u16) -> Result<Effect, Verdict>
-    requires { InCode r.old.pc }
-    ensures { OnRegisters (Instruction.Jump by) next result r.old r.new }
-{
-    r.pc += by as i32;
-    Ok(Effect::Moved)
-}
-
-// read tells that a read wants a word, for which there is a place.
-pub(crate) fn read(
-    r: &mut Registers,
-    operand: &[i32],
-    kind: Kind,
-    next: u16,
-) -> Result<Effect, Verdict>
-    requires { r.old.height ≤ length operand.now }
-    ensures { OnOperand (Instruction.Read kind) next result r.old operand.now r.new operand.now }
-{
-    if r.height >= operand.len() {
-        return Err(Verdict::IllegalStep);
+    // read tells that a read wants a word, for which there is a place.
+    pub(crate) fn read(&self, kind: Kind, next: u16) -> Result<Effect, Verdict>
+        ensures { Performed (Instruction.Read kind) next result self.now self.now }
+    {
+        if self.height >= self.operand.len() {
+            return Err(Verdict::IllegalStep);
+        }
+        Ok(Effect::Takes { kind, next })
     }
-    Ok(Effect::Takes { kind, next })
-}
 
-// print tells what a print writes.
-pub(crate) fn print(
-    r: &mut Registers,
-    operand: &[i32],
-    kind: Kind,
-    next: u16,
-) -> Result<Effect, Verdict>
-    requires { r.old.height ≤ length operand.now }
-    ensures { OnOperand (Instruction.Print kind) next result r.old operand.now r.new operand.now }
-{
-    if r.height < 2 {
-        return Err(Verdict::IllegalStep);
+    // print tells what a print writes.
+    pub(crate) fn print(&self, kind: Kind, next: u16) -> Result<Effect, Verdict>
+        ensures { Performed (Instruction.Print kind) next result self.now self.now }
+    {
+        if self.height < 2 {
+            return Err(Verdict::IllegalStep);
+        }
+        Ok(Effect::Writes {
+            kind,
+            value: self.operand[self.height - 2],
+            width: self.operand[self.height - 1],
+            next,
+        })
     }
-    Ok(Effect::Writes {
-        kind,
-        value: operand[r.height - 2],
-        width: operand[r.height - 1],
-        next,
-    })
-}
 
-// trap performs a trap: 1 is for a function that ends without a return.
-pub(crate) fn trap(r: &mut Registers, n: u8, next: u16) -> Result<Effect, Verdict>
-    ensures { OnRegisters (Instruction.Trap n) next result r.old r.new }
-{
-    if n == 1 {
-        Err(Verdict::MissingReturn)
-    } else {
-        Err(Verdict::IllegalStep)
+    // trap performs a trap: 1 is for a function that ends without a return.
+    pub(crate) fn trap(&self, n: u8, next: u16) -> Result<Effect, Verdict>
+        ensures { Performed (Instruction.Trap n) next result self.now self.now }
+    {
+        if n == 1 {
+            Err(Verdict::MissingReturn)
+        } else {
+            Err(Verdict::IllegalStep)
+        }
     }
 }

@@ -1,59 +1,41 @@
-ghost use Rattle.step.specs.Perform as spec;
-ghost use Rattle.step.specs.Promises.{Did, InCode};
-ghost use Rattle.step.specs.Sound.{Sound};
-ghost use Rattle.step.specs.State.{state};
-ghost use Rattle.std.specs.Prelude.{pos};
+ghost use Rattle.step.specs.Promises.{InCode, Performed};
 
-use crate::arrays::{array_length, array_load, array_store, new_array};
-use crate::calls::{call_method, enter, exit, return_to_caller};
-use crate::operands::{
-    compute, discard, duplicate, duplicate_pair, jump, jump_if, negate, print, push, read, trap,
-};
-use crate::registers::{Effect, Registers};
-use crate::variables::{get_static, increment, load, put_static, store};
+use crate::interpreter::Interpreter;
+use crate::registers::Effect;
 use instructions::Instruction;
 use outcomes::Verdict;
 
-// perform does what an instruction does; next is the offset behind it.
-pub(crate) fn perform(
-    instruction: Instruction,
-    next: u16,
-    r: &mut Registers,
-    data: &mut [i32],
-    heap: &mut [i32],
-    call: &mut [i32],
-    operand: &mut [i32],
-) -> Result<Effect, Verdict>
-    requires sound { Sound (state r.old «data».old heap.old call.old operand.old) }
-    requires inside { InCode r.old.pc }
-    ensures { Did result (spec.perform instruction (pos next) (state r.old «data».old heap.old call.old operand.old))
-        (state r.old «data».old heap.old call.old operand.old)
-        (state r.new «data».new heap.new call.new operand.new) }
-{
-    match instruction {
-        Instruction::Load(n) => load(r, call, operand, n, next),
-        Instruction::Store(n) => store(r, call, operand, n, next),
-        Instruction::GetStatic(n) => get_static(r, data, operand, n, next),
-        Instruction::PutStatic(n) => put_static(r, data, operand, n, next),
-        Instruction::Const(word) => push(r, operand, word, next),
-        Instruction::Binary(operator) => compute(r, operand, operator, next),
-        Instruction::Negate => negate(r, operand, next),
-        Instruction::Increment(n, by) => increment(r, call, n, by, next),
-        Instruction::NewArray(kind) => new_array(r, heap, operand, kind, next),
-        Instruction::ArrayLoad(kind) => array_load(r, heap, operand, kind, next),
-        Instruction::ArrayStore(kind) => array_store(r, heap, operand, kind, next),
-        Instruction::ArrayLength => array_length(r, heap, operand, next),
-        Instruction::Pop => discard(r, next),
-        Instruction::Dup => duplicate(r, operand, next),
-        Instruction::Dup2 => duplicate_pair(r, operand, next),
-        Instruction::Jump(by) => jump(r, by, next),
-        Instruction::JumpIf(relation, by) => jump_if(r, operand, relation, by, next),
-        Instruction::Call(by) => call_method(r, call, by, next),
-        Instruction::Return => return_to_caller(r, call, next),
-        Instruction::Enter(parameters, locals) => enter(r, call, operand, parameters, locals, next),
-        Instruction::Exit => exit(r, call, next),
-        Instruction::Read(kind) => read(r, operand, kind, next),
-        Instruction::Print(kind) => print(r, operand, kind, next),
-        Instruction::Trap(n) => trap(r, n, next),
+impl Interpreter<'_> {
+    // perform does what an instruction does; next is the offset behind it.
+    pub(crate) fn perform(&mut self, instruction: Instruction, next: u16) -> Result<Effect, Verdict>
+        requires { InCode self.old.pc }
+        ensures { Performed instruction next result self.old self.new }
+    {
+        match instruction {
+            Instruction::Load(n) => self.load(n, next),
+            Instruction::Store(n) => self.store(n, next),
+            Instruction::GetStatic(n) => self.get_static(n, next),
+            Instruction::PutStatic(n) => self.put_static(n, next),
+            Instruction::Const(word) => self.constant(word, next),
+            Instruction::Binary(operator) => self.compute(operator, next),
+            Instruction::Negate => self.negate(next),
+            Instruction::Increment(n, by) => self.increment(n, by, next),
+            Instruction::NewArray(kind) => self.new_array(kind, next),
+            Instruction::ArrayLoad(kind) => self.array_load(kind, next),
+            Instruction::ArrayStore(kind) => self.array_store(kind, next),
+            Instruction::ArrayLength => self.array_length(next),
+            Instruction::Pop => self.pop(next),
+            Instruction::Dup => self.dup(next),
+            Instruction::Dup2 => self.dup2(next),
+            Instruction::Jump(by) => self.jump(by, next),
+            Instruction::JumpIf(relation, by) => self.jump_if(relation, by, next),
+            Instruction::Call(by) => self.call_method(by, next),
+            Instruction::Return => self.return_to_caller(next),
+            Instruction::Enter(parameters, locals) => self.enter(parameters, locals, next),
+            Instruction::Exit => self.exit(next),
+            Instruction::Read(kind) => self.read(kind, next),
+            Instruction::Print(kind) => self.print(kind, next),
+            Instruction::Trap(n) => self.trap(n, next),
+        }
     }
 }

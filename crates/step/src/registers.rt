@@ -1,7 +1,7 @@
 use words::printing::Kind;
 
 // Registers are the machine's state beside its stores.
-#[derive(Clone, Copy)]
+#[derive(Clone, Copy, PartialEq, Eq, Debug)]
 pub struct Registers {
     // pc is the code offset of the next instruction.
     pub pc: i32,

@@ -1,124 +1,86 @@
-ghost use Rattle.std.specs.Prelude.{◌≡◌, ◌^◌, ◌<◌, ◌≤◌, length, pos, ◌+ℤ◌};
-ghost use Rattle.step.specs.Promises.{OnCall, OnData};
-ghost use Rattle.step.specs.Promises as spec;
+ghost use Rattle.std.specs.Prelude.{◌≡◌, ◌+◌, length, pos, ◌+ℤ◌, IfOk};
+ghost use Rattle.step.specs.Promises.{Performed, PlaceFound};
 
-use crate::registers::{Effect, Registers};
+use crate::interpreter::Interpreter;
+use crate::registers::Effect;
 use instructions::Instruction;
 use outcomes::Verdict;
 
-// place gives the place of a local in a call store of so many words.
-fn place(frame: i32, n: u8, words: usize) -> Option<usize>
-    ensures { result ≡ spec.place_in (frame +ℤ pos n) words }
-{
-    let at = frame as i64 + n as i64;
-    if at < 0 || at as usize >= words {
-        return None;
+impl Interpreter<'_> {
+    // local gives the call-store word of a local.
+    fn local(&self, n: u8) -> Result<usize, Verdict>
+        ensures { PlaceFound result (self.now.frame +ℤ pos n) (length self.now.call.now) }
+    {
+        let at = self.frame as i64 + n as i64;
+        if at < 0 || at as usize >= self.call.len() {
+            return Err(Verdict::IllegalStep);
+        }
+        Ok(at as usize)
     }
-    Some(at as usize)
-}
 
-// load performs a load of a local.
-pub(crate) fn load(
-    r: &mut Registers,
-    call: &[i32],
-    operand: &mut [i32],
-    n: u8,
-    next: u16,
-) -> Result<Effect, Verdict>
-    requires { r.old.height ≤ length operand.old }
-    ensures { OnCall (Instruction.Load n) next result r.old call.now operand.old r.new call.now operand.new }
-{
-    let Some(at) = place(r.frame, n, call.len()) else {
-        return Err(Verdict::IllegalStep);
-    };
-    if r.height >= operand.len() {
-        return Err(Verdict::IllegalStep);
+    // load performs a load of a local.
+    pub(crate) fn load(&mut self, n: u8, next: u16) -> Result<Effect, Verdict>
+        ensures { Performed (Instruction.Load n) next result self.old self.new }
+    {
+        let at = self.local(n)?;
+        if self.height >= self.operand.len() {
+            return Err(Verdict::IllegalStep);
+        }
+        self.operand[self.height] = self.call[at];
+        self.height += 1;
+        self.pc = next as i32;
+        Ok(Effect::Moved)
     }
-    operand[r.height] = call[at];
-    r.height += 1;
-    r.pc = next as i32;
-    Ok(Effect::Moved)
-}
 
-// store performs a store to a local.
-pub(crate) fn store(
-    r: &mut Registers,
-    call: &mut [i32],
-    operand: &[i32],
-    n: u8,
-    next: u16,
-) -> Result<Effect, Verdict>
-    requires { r.old.height ≤ length operand.now }
-    ensures { OnCall (Instruction.Store n) next result r.old call.old operand.now r.new call.new operand.now }
-{
-    let Some(at) = place(r.frame, n, call.len()) else {
-        return Err(Verdict::IllegalStep);
-    };
-    if r.height < 1 {
-        return Err(Verdict::IllegalStep);
+    // store performs a store to a local.
+    pub(crate) fn store(&mut self, n: u8, next: u16) -> Result<Effect, Verdict>
+        ensures { Performed (Instruction.Store n) next result self.old self.new }
+    {
+        let at = self.local(n)?;
+        if self.height < 1 {
+            return Err(Verdict::IllegalStep);
+        }
+        self.height -= 1;
+        self.call[at] = self.operand[self.height];
+        self.pc = next as i32;
+        Ok(Effect::Moved)
     }
-    r.height -= 1;
-    call[at] = operand[r.height];
-    r.pc = next as i32;
-    Ok(Effect::Moved)
-}
 
-// increment performs an addition to a local.
-pub(crate) fn increment(
-    r: &mut Registers,
-    call: &mut [i32],
-    n: u8,
-    by: i8,
-    next: u16,
-) -> Result<Effect, Verdict>
-    ensures { spec.OnCallAlone (Instruction.Increment n by) next result r.old call.old r.new call.new }
-{
-    let Some(at) = place(r.frame, n, call.len()) else {
-        return Err(Verdict::IllegalStep);
-    };
-    call[at] = call[at].wrapping_add(by as i32);
-    r.pc = next as i32;
-    Ok(Effect::Moved)
-}
-
-// get_static performs a load of a global.
-pub(crate) fn get_static(
-    r: &mut Registers,
-    data: &[i32],
-    operand: &mut [i32],
-    n: u16,
-    next: u16,
-) -> Result<Effect, Verdict>
-    requires { r.old.height ≤ length operand.old }
-    ensures { OnData (Instruction.GetStatic n) next result r.old «data».now operand.old r.new «data».now operand.new }
-{
-    let at = n as usize;
-    if at >= data.len() || r.height >= operand.len() {
-        return Err(Verdict::IllegalStep);
+    // increment performs an addition to a local.
+    pub(crate) fn increment(&mut self, n: u8, by: i8, next: u16) -> Result<Effect, Verdict>
+        ensures { Performed (Instruction.Increment n by) next result self.old self.new }
+    {
+        let at = self.local(n)?;
+        self.call[at] = self.call[at].wrapping_add(by as i32);
+        self.pc = next as i32;
+        Ok(Effect::Moved)
     }
-    operand[r.height] = data[at];
-    r.height += 1;
-    r.pc = next as i32;
-    Ok(Effect::Moved)
-}
 
-// put_static performs a store to a global.
-pub(crate) fn put_static(
-    r: &mut Registers,
-    data: &mut [i32],
-    operand: &[i32],
-    n: u16,
-    next: u16,
-) -> Result<Effect, Verdict>
-    requires { r.old.height ≤ length operand.now }
-    ensures { OnData (Instruction.PutStatic n) next result r.old «data».old operand.now r.new «data».new operand.now }
-{
-    let at = n as usize;
-    if at >= data.len() || r.height < 1 {
-        return Err(Verdict::IllegalStep);
+    // get_static performs a load of a global.
+    pub(crate) fn get_static(&mut self, n: u16, next: u16) -> Result<Effect, Verdict>
+        ensures { Performed (Instruction.GetStatic n) next result self.old self.new }
+    {
+        let at = n as usize;
+        if at >= self.data.len() || self.height >= self.operand.len() {
+            return Err(Verdict::IllegalStep);
+        }
+        self.operand[self.height] = self.data[at];
+        self.height += 1;
+        self.pc = next as i32;
+        Ok(Effect::Moved)
     }
-    r.height -= 1;
-    data[at] = operand[r.height];
-    r.pc = next as i32;
-    Ok(Effect::Moved)
+
+    // put_static performs a store to a global.
+    pub(crate) fn put_static(&mut self, n: u16, next: u16) -> Result<Effect, Verdict>
+        ensures { Performed (Instruction.PutStatic n) next result self.old self.new }
+    {
+        let at = n as usize;
+        if at >= self.data.len() || self.height < 1 {
+            return Err(Verdict::IllegalStep);
+        }
+        self.height -= 1;
+        self.data[at] = self.operand[self.height];
+        self.pc = next as i32;
+        Ok(Effect::Moved)
+    }
 }

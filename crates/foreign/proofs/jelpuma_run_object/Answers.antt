@@ -1,3 +1,4 @@
+use Rattle.std.proofs.Common.{rules}
 use mathlib.Core.Logic.{inl, inr}
 use mathlib.Core.Path.{refl, sym, ap, subst, ◌∙◌}
 use native.Mathlib.Omega.{arith}
@@ -18,12 +19,12 @@ returns-in-Err c =
 
 pub returns-in-Err-start : goal.returns-in-Err-start
 returns-in-Err-start c =
-    let s = c.in-Err-start.ensures in
+    let s = c.in-Err-start.ensures.started in
     let i = c.in-Ok.ensures in
-    inr (subst (Declines c.args.object.now _ (set c.args.report.now 0 0)) (sym (c.number-in-Err-start.ensures ∙ ap number_of_refusal s.0)) (store (object_of c.in-Ok.checked) i.0 i.1 s.1), s.2)
+    inr (subst (Declines c.args.object.now _ (set c.args.report.now 0 0)) (sym (c.number-in-Err-start.ensures ∙ ap number_of_refusal s.0)) (store (object_of c.in-Ok.checked) i.0 i.1 s.1), search (rules, s.2))
 
 pub returns : goal.returns
 returns c =
     let i = c.in-Ok.ensures in
-    let s = c.in-Ok-start.ensures in
+    let s = c.in-Ok-start.ensures.started in
     inl (refl, record { object = object_of c.in-Ok.checked; file = i.0; formed = i.1; suffices = s.0 })
