@@ -1,8 +1,8 @@
 ghost use Rattle.std.specs.Prelude.{◌≡◌, ◌<◌, ◌≤◌, length, IfOk};
 ghost use Rattle.step.specs.Arrays as spec;
-ghost use Rattle.step.specs.Promises.{ElementFound, Performed, PlaceFound};
+ghost use Rattle.step.specs.Promises.{ElementFound, Performed};
 
-use crate::blocks::write_block;
+use crate::blocks::{place, write_block};
 use crate::interpreter::Interpreter;
 use crate::registers::{Effect, Element};
 use instructions::Instruction;
@@ -76,16 +76,6 @@ impl Interpreter<'_> {
         Ok(Effect::Moved)
     }
 
-    // used_word gives a word of the heap as the place that it refers to, where that is in use.
-    fn used_word(&self, word: i32) -> Result<usize, Verdict>
-        ensures { PlaceFound result word self.now.free }
-    {
-        if word < 0 || word as usize >= self.free {
-            return Err(Verdict::IllegalStep);
-        }
-        Ok(word as usize)
-    }
-
     // element finds the heap word of an array's element.
     fn element(&self, kind: Kind, reference: i32, index: i32) -> Result<Element, Verdict>
         ensures found { ElementFound kind reference index self.now.free self.now.heap.now result }
@@ -97,7 +87,7 @@ impl Interpreter<'_> {
         if index < 0 {
             return Err(Verdict::IndexOutOfRange);
         }
-        let at = self.used_word(reference)?;
+        let at = place(reference as i64, self.free)?;
         if index >= self.heap[at] {
             return Err(Verdict::IndexOutOfRange);
         }
@@ -151,7 +141,7 @@ impl Interpreter<'_> {
         if reference == 0 {
             return Err(Verdict::NullReference);
         }
-        let at = self.used_word(reference)?;
+        let at = place(reference as i64, self.free)?;
         self.operand[self.height - 1] = self.heap[at];
         self.pc = next as i32;
         Ok(Effect::Moved)

@@ -4,7 +4,7 @@
 //
 // interpreter.rt: registers, stores and code of a machine that runs. registers.rt: registers, and what a step comes to.
 // one_step.rt: a step, and the ends of a read and a print. perform.rt: from an instruction to its method.
-// operands.rt, variables.rt, arrays.rt, calls.rt: a method for each instruction. blocks.rt: words written over a store.
+// operands.rt, variables.rt, arrays.rt, calls.rt: a method for each instruction. blocks.rt: places in a store, and words written over it.
 #![tactic(auto)]
 
 mod arrays;

@@ -64,13 +64,11 @@ impl Interpreter<'_> {
     pub(crate) fn dup(&mut self, next: u16) -> Result<Effect, Verdict>
         ensures { Performed Instruction.Dup next result self.old self.new }
     {
-        if self.height < 1 || self.height >= self.operand.len() {
+        if self.height < 1 {
             return Err(Verdict::IllegalStep);
         }
-        self.operand[self.height] = self.operand[self.height - 1];
-        self.height += 1;
-        self.pc = next as i32;
-        Ok(Effect::Moved)
+        let word = self.operand[self.height - 1];
+        self.constant(word, next)
     }
 
     // dup2 performs a dup2.

@@ -1,6 +1,7 @@
 ghost use Rattle.std.specs.Prelude.{◌≡◌, ◌+◌, length, pos, ◌+ℤ◌, IfOk};
 ghost use Rattle.step.specs.Promises.{Performed, PlaceFound};
 
+use crate::blocks::place;
 use crate::interpreter::Interpreter;
 use crate::registers::Effect;
 use instructions::Instruction;
@@ -11,25 +12,15 @@ impl Interpreter<'_> {
     fn local(&self, n: u8) -> Result<usize, Verdict>
         ensures { PlaceFound result (self.now.frame +ℤ pos n) (length self.now.call.now) }
     {
-        let at = self.frame as i64 + n as i64;
-        if at < 0 || at as usize >= self.call.len() {
-            return Err(Verdict::IllegalStep);
-        }
-        Ok(at as usize)
+        place(self.frame as i64 + n as i64, self.call.len())
     }
 
     // load performs a load of a local.
     pub(crate) fn load(&mut self, n: u8, next: u16) -> Result<Effect, Verdict>
         ensures { Performed (Instruction.Load n) next result self.old self.new }
     {
-        let at = self.local(n)?;
-        if self.height >= self.operand.len() {
-            return Err(Verdict::IllegalStep);
-        }
-        self.operand[self.height] = self.call[at];
-        self.height += 1;
-        self.pc = next as i32;
-        Ok(Effect::Moved)
+        let word = self.call[self.local(n)?];
+        self.constant(word, next)
     }
 
     // store performs a store to a local.
@@ -60,14 +51,11 @@ impl Interpreter<'_> {
     pub(crate) fn get_static(&mut self, n: u16, next: u16) -> Result<Effect, Verdict>
         ensures { Performed (Instruction.GetStatic n) next result self.old self.new }
     {
-        let at = n as usize;
-        if at >= self.data.len() || self.height >= self.operand.len() {
+        if n as usize >= self.data.len() {
             return Err(Verdict::IllegalStep);
         }
-        self.operand[self.height] = self.data[at];
-        self.height += 1;
-        self.pc = next as i32;
-        Ok(Effect::Moved)
+        let word = self.data[n as usize];
+        self.constant(word, next)
     }
 
     // put_static performs a store to a global.
