@@ -1,5 +1,5 @@
 -- What the methods of an interpreter promise.
-use Rattle.std.specs.Prelude.{◌≡◌, ℕ, ◌-◌, ◌<◌, ◌≤◌, List, length, take, drop, ℤ, pos, ◌≤ℤ◌, ◌<ℤ◌, Ok, Err, Result, ◌≢◌}
+use Rattle.std.specs.Prelude.{◌≡◌, ℕ, ◌+◌, ◌-◌, ◌<◌, ◌≤◌, List, length, take, drop, ℤ, pos, ◌≤ℤ◌, ◌<ℤ◌, Ok, Err, Result, ◌≢◌}
 use Rattle.outcomes.specs.declared.Verdict.{Verdict}
 use Rattle.outcomes.specs.declared.Verdict.TheVariants.{IllegalStep}
 use Rattle.words.specs.declared.printing.Kind.{Kind}
@@ -12,7 +12,7 @@ use Rattle.step.specs.declared.registers.Element.{Element}
 use Rattle.step.specs.declared.registers.Effect.{Effect}
 use Rattle.step.specs.declared.registers.Effect.TheVariants.{Moved, Takes, Writes}
 use Rattle.step.specs.State.{State, state, Step, moves, takes, writes, ends, at, with_operand, with_call}
-use Rattle.step.specs.Stacks.{pushed}
+use Rattle.step.specs.Stacks.{pushed, word_at}
 use Rattle.step.specs.Arrays.{element, over}
 use Rattle.step.specs.Loans.{SameStore}
 use Rattle.step.specs.Perform.{perform, step}
@@ -55,6 +55,11 @@ Stepped o i j = SameLoans i j × Did o (step i.code.now (state_of i)) (state_of 
 abbrev pub PlaceFound : Result ℕ Verdict → ℤ → ℕ → Type 0
 PlaceFound (Ok i) z size = (i < size) × (z ≡ pos i)
 PlaceFound (Err verdict) z size = (verdict ≡ IllegalStep) × ((i : ℕ) → i < size → z ≢ pos i)
+
+-- the n uppermost operands, the lowest of them first; or verdict 9, where there are fewer
+abbrev pub Uppermost : ℕ → Result (List ℤ) Verdict → Interpreter → Type 0
+Uppermost n (Ok ws) i = (n ≤ i.height) × ((k : ℕ) → k < n → word_at ws k ≡ word_at i.operand.now (i.height - n + k))
+Uppermost n (Err verdict) i = (verdict ≡ IllegalStep) × (i.height < n)
 
 -- so many operands from a place on, as words of the call store from another place on
 abbrev pub ArgumentsPassed : ℕ → ℕ → ℕ → Interpreter → Interpreter → Type 0

@@ -58,10 +58,7 @@ impl Interpreter<'_> {
     pub(crate) fn new_array(&mut self, kind: Kind, next: u16) -> Result<Effect, Verdict>
         ensures { Performed (Instruction.NewArray kind) next result self.old self.new }
     {
-        if self.height < 1 {
-            return Err(Verdict::IllegalStep);
-        }
-        let elements = self.operand[self.height - 1];
+        let [elements] = self.uppermost::<1>()?;
         if elements < 0 {
             return Err(Verdict::NegativeLength);
         }
@@ -103,10 +100,7 @@ impl Interpreter<'_> {
     pub(crate) fn array_load(&mut self, kind: Kind, next: u16) -> Result<Effect, Verdict>
         ensures { Performed (Instruction.ArrayLoad kind) next result self.old self.new }
     {
-        if self.height < 2 {
-            return Err(Verdict::IllegalStep);
-        }
-        let (reference, index) = (self.operand[self.height - 2], self.operand[self.height - 1]);
+        let [reference, index] = self.uppermost::<2>()?;
         let at = self.element(kind, reference, index)?;
         self.operand[self.height - 2] = element_in(kind, at.index, self.heap[at.word]);
         self.height -= 1;
@@ -118,12 +112,8 @@ impl Interpreter<'_> {
     pub(crate) fn array_store(&mut self, kind: Kind, next: u16) -> Result<Effect, Verdict>
         ensures { Performed (Instruction.ArrayStore kind) next result self.old self.new }
     {
-        if self.height < 3 {
-            return Err(Verdict::IllegalStep);
-        }
-        let (reference, index) = (self.operand[self.height - 3], self.operand[self.height - 2]);
+        let [reference, index, value] = self.uppermost::<3>()?;
         let at = self.element(kind, reference, index)?;
-        let value = self.operand[self.height - 1];
         self.heap[at.word] = with_element(kind, at.index, value, self.heap[at.word]);
         self.height -= 3;
         self.pc = next as i32;
@@ -134,10 +124,7 @@ impl Interpreter<'_> {
     pub(crate) fn array_length(&mut self, next: u16) -> Result<Effect, Verdict>
         ensures { Performed Instruction.ArrayLength next result self.old self.new }
     {
-        if self.height < 1 {
-            return Err(Verdict::IllegalStep);
-        }
-        let reference = self.operand[self.height - 1];
+        let [reference] = self.uppermost::<1>()?;
         if reference == 0 {
             return Err(Verdict::NullReference);
         }

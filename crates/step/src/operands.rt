@@ -1,4 +1,4 @@
-ghost use Rattle.step.specs.Promises.{InCode, Performed};
+ghost use Rattle.step.specs.Promises.{InCode, Performed, Uppermost};
 
 use crate::interpreter::Interpreter;
 use crate::registers::Effect;
@@ -8,6 +8,16 @@ use words::arithmetic::{Operator, Relation, negation};
 use words::printing::Kind;
 
 impl Interpreter<'_> {
+    // uppermost gives the N uppermost operands, the lowest of them first.
+    pub(crate) fn uppermost<const N: usize>(&self) -> Result<[i32; N], Verdict>
+        ensures { Uppermost N result self.now }
+    {
+        self.operand[..self.height]
+            .last_chunk::<N>()
+            .copied()
+            .ok_or(Verdict::IllegalStep)
+    }
+
     // constant performs a constant.
     pub(crate) fn constant(&mut self, word: i32, next: u16) -> Result<Effect, Verdict>
         ensures { Performed (Instruction.Const word) next result self.old self.new }
@@ -25,10 +35,7 @@ impl Interpreter<'_> {
     pub(crate) fn compute(&mut self, operator: Operator, next: u16) -> Result<Effect, Verdict>
         ensures { Performed (Instruction.Binary operator) next result self.old self.new }
     {
-        if self.height < 2 {
-            return Err(Verdict::IllegalStep);
-        }
-        let (a, b) = (self.operand[self.height - 2], self.operand[self.height - 1]);
+        let [a, b] = self.uppermost::<2>()?;
         let word = operator.compute(a, b).ok_or(Verdict::DivisionByZero)?;
         self.operand[self.height - 2] = word;
         self.height -= 1;
@@ -40,10 +47,8 @@ impl Interpreter<'_> {
     pub(crate) fn negate(&mut self, next: u16) -> Result<Effect, Verdict>
         ensures { Performed Instruction.Negate next result self.old self.new }
     {
-        if self.height < 1 {
-            return Err(Verdict::IllegalStep);
-        }
-        self.operand[self.height - 1] = negation(self.operand[self.height - 1]);
+        let [word] = self.uppermost::<1>()?;
+        self.operand[self.height - 1] = negation(word);
         self.pc = next as i32;
         Ok(Effect::Moved)
     }
@@ -52,9 +57,7 @@ impl Interpreter<'_> {
     pub(crate) fn pop(&mut self, next: u16) -> Result<Effect, Verdict>
         ensures { Performed Instruction.Pop next result self.old self.new }
     {
-        if self.height < 1 {
-            return Err(Verdict::IllegalStep);
-        }
+        let [_] = self.uppermost::<1>()?;
         self.height -= 1;
         self.pc = next as i32;
         Ok(Effect::Moved)
@@ -64,10 +67,7 @@ impl Interpreter<'_> {
     pub(crate) fn dup(&mut self, next: u16) -> Result<Effect, Verdict>
         ensures { Performed Instruction.Dup next result self.old self.new }
     {
-        if self.height < 1 {
-            return Err(Verdict::IllegalStep);
-        }
-        let word = self.operand[self.height - 1];
+        let [word] = self.uppermost::<1>()?;
         self.constant(word, next)
     }
 
@@ -95,10 +95,7 @@ impl Interpreter<'_> {
         requires { InCode self.old.pc }
         ensures { Performed (Instruction.JumpIf relation by) next result self.old self.new }
     {
-        if self.height < 2 {
-            return Err(Verdict::IllegalStep);
-        }
-        let (a, b) = (self.operand[self.height - 2], self.operand[self.height - 1]);
+        let [a, b] = self.uppermost::<2>()?;
         self.height -= 2;
         if relation.holds(a, b) {
             self.pc += by as i32;
@@ -131,13 +128,11 @@ impl Interpreter<'_> {
     pub(crate) fn print(&self, kind: Kind, next: u16) -> Result<Effect, Verdict>
         ensures { Performed (Instruction.Print kind) next result self.now self.now }
     {
-        if self.height < 2 {
-            return Err(Verdict::IllegalStep);
-        }
+        let [value, width] = self.uppermost::<2>()?;
         Ok(Effect::Writes {
             kind,
-            value: self.operand[self.height - 2],
-            width: self.operand[self.height - 1],
+            value,
+            width,
             next,
         })
     }

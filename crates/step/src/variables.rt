@@ -28,11 +28,9 @@ impl Interpreter<'_> {
         ensures { Performed (Instruction.Store n) next result self.old self.new }
     {
         let at = self.local(n)?;
-        if self.height < 1 {
-            return Err(Verdict::IllegalStep);
-        }
+        let [word] = self.uppermost::<1>()?;
         self.height -= 1;
-        self.call[at] = self.operand[self.height];
+        self.call[at] = word;
         self.pc = next as i32;
         Ok(Effect::Moved)
     }
@@ -62,12 +60,12 @@ impl Interpreter<'_> {
     pub(crate) fn put_static(&mut self, n: u16, next: u16) -> Result<Effect, Verdict>
         ensures { Performed (Instruction.PutStatic n) next result self.old self.new }
     {
-        let at = n as usize;
-        if at >= self.data.len() || self.height < 1 {
+        if n as usize >= self.data.len() {
             return Err(Verdict::IllegalStep);
         }
+        let [word] = self.uppermost::<1>()?;
         self.height -= 1;
-        self.data[at] = self.operand[self.height];
+        self.data[n as usize] = word;
         self.pc = next as i32;
         Ok(Effect::Moved)
     }

@@ -7,7 +7,7 @@ use Rattle.step.specs.Stacks.{word_at, go_to, push}
 use Rattle.step.specs.Arrays.{element, element_in}
 use Rattle.step.specs.Promises.{state_of}
 use Rattle.step.proofs.Elements.{found_at}
-use Rattle.step.proofs.Stacking.{pops_two, pushes}
+use Rattle.step.proofs.Stacking.{pops_two, pushes, uppermost_two}
 use Rattle.step.proofs.interpreter.Interpreter.array_load.Goals as goal
 
 -- what follows once the element is found
@@ -16,14 +16,16 @@ load kind next u w j = push (element_in kind j (word_at u.heap w)) u (go_to next
 
 pub returns-in_err-at : goal.returns-in_err-at
 returns-in_err-at c =
-    let p = err_from_is_err_and c.from_residual.result c.from_residual.ensures.1 in
+    let p = err_from_is_err_and c.from_residual-in_err-at.result c.from_residual-in_err-at.ensures.1 in
     rw (p.1, p.2)
     (let r = c.args.self.now in
     let o = r.operand.now in
     let s : State = state_of r in
-    let f : SFits w32 (get_or o (r.height - 2) (pos 0)) = search rules in
-    let g : SFits w32 (get_or o (r.height - 1) (pos 0)) = search rules in
-    let found = found_at c.args.kind _ (get_or o (r.height - 2) (pos 0)) _ (get_or o (r.height - 1) (pos 0)) r.free r.heap.now (Err c.in_err-at.field-0.0) (to_z-of_z w32 _ f) (to_z-of_z w32 _ g) c.in_err-at.ensures.found in (
+    let ws = c.in_ok-reference.field-0 in
+    let top = uppermost_two ws r c.in_ok-reference.ensures in
+    let f : SFits w32 (get_or ws 0 (pos 0)) = search rules in
+    let g : SFits w32 (get_or ws 1 (pos 0)) = search rules in
+    let found = found_at c.args.kind _ (get_or o (r.height - 2) (pos 0)) _ (get_or o (r.height - 1) (pos 0)) r.free r.heap.now (Err c.in_err-at.field-0.0) (to_z-of_z w32 _ f ∙ top.1) (to_z-of_z w32 _ g ∙ top.2) c.in_err-at.ensures.found in (
       search rules,
       (
         pops_two s (λ i a u. element c.args.kind a i u.registers.free u.heap (load c.args.kind (pos c.args.next) u)) (omega arith) ∙ found (load c.args.kind (pos c.args.next) (with_operand (r.height - 2) o s)),
@@ -39,10 +41,12 @@ returns c =
     let at = c.in_ok-at.at in
     let s : State = state_of r in
     let u : State = with_operand (r.height - 2) o s in
-    let f : SFits w32 (get_or o (r.height - 2) (pos 0)) = search rules in
-    let g : SFits w32 (get_or o (r.height - 1) (pos 0)) = search rules in
+    let ws = c.in_ok-reference.field-0 in
+    let top = uppermost_two ws r c.in_ok-reference.ensures in
+    let f : SFits w32 (get_or ws 0 (pos 0)) = search rules in
+    let g : SFits w32 (get_or ws 1 (pos 0)) = search rules in
     let x : SFits w32 (get_or r.heap.now at.word (pos 0)) = search rules in
-    let found = found_at kind _ (get_or o (r.height - 2) (pos 0)) _ (get_or o (r.height - 1) (pos 0)) r.free r.heap.now (Ok at) (to_z-of_z w32 _ f) (to_z-of_z w32 _ g) c.in_ok-at.ensures.found in
+    let found = found_at kind _ (get_or o (r.height - 2) (pos 0)) _ (get_or o (r.height - 1) (pos 0)) r.free r.heap.now (Ok at) (to_z-of_z w32 _ f ∙ top.1) (to_z-of_z w32 _ g ∙ top.2) c.in_ok-at.ensures.found in
     let word : element_in kind at.index (get_or r.heap.now at.word (pos 0)) ≡ c.element_in.result = sym (simp to_z-of_z at c.element_in.ensures) in
     let up : r.height - 2 + 1 ≡ r.height - 1 = omega arith in
     let e = to_z_pos w32 c.args.next (omega arith) in

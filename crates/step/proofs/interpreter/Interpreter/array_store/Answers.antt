@@ -7,7 +7,7 @@ use Rattle.step.specs.Stacks.{word_at, go_to}
 use Rattle.step.specs.Arrays.{element, with_element}
 use Rattle.step.specs.Promises.{state_of}
 use Rattle.step.proofs.Elements.{found_at}
-use Rattle.step.proofs.Stacking.{pops_three}
+use Rattle.step.proofs.Stacking.{pops_three, uppermost_three}
 use Rattle.step.proofs.interpreter.Interpreter.array_store.Goals as goal
 
 -- what follows once the element is found
@@ -16,15 +16,17 @@ put kind next v x w j = go_to next (with_heap x.registers.free (set x.heap w (wi
 
 pub returns-in_err-at : goal.returns-in_err-at
 returns-in_err-at c =
-    let p = err_from_is_err_and c.from_residual.result c.from_residual.ensures.1 in
+    let p = err_from_is_err_and c.from_residual-in_err-at.result c.from_residual-in_err-at.ensures.1 in
     rw (p.1, p.2)
     (let r = c.args.self.now in
     let o = r.operand.now in
     let v = get_or o (r.height - 1) (pos 0) in
     let s : State = state_of r in
-    let f : SFits w32 (get_or o (r.height - 3) (pos 0)) = search rules in
-    let g : SFits w32 (get_or o (r.height - 2) (pos 0)) = search rules in
-    let found = found_at c.args.kind _ (get_or o (r.height - 3) (pos 0)) _ (get_or o (r.height - 2) (pos 0)) r.free r.heap.now (Err c.in_err-at.field-0.0) (to_z-of_z w32 _ f) (to_z-of_z w32 _ g) c.in_err-at.ensures.found in (
+    let ws = c.in_ok-reference.field-0 in
+    let top = uppermost_three ws r c.in_ok-reference.ensures in
+    let f : SFits w32 (get_or ws 0 (pos 0)) = search rules in
+    let g : SFits w32 (get_or ws 1 (pos 0)) = search rules in
+    let found = found_at c.args.kind _ (get_or o (r.height - 3) (pos 0)) _ (get_or o (r.height - 2) (pos 0)) r.free r.heap.now (Err c.in_err-at.field-0.0) (to_z-of_z w32 _ f ∙ top.1) (to_z-of_z w32 _ g ∙ top.2) c.in_err-at.ensures.found in (
       search rules,
       (
         pops_three s (λ v i a x. element c.args.kind a i x.registers.free x.heap (put c.args.kind (pos c.args.next) v x)) (omega arith) ∙ found (put c.args.kind (pos c.args.next) v (with_operand (r.height - 3) o s)),
@@ -42,13 +44,15 @@ returns c =
     let v = get_or o (r.height - 1) (pos 0) in
     let s : State = state_of r in
     let x : State = with_operand (r.height - 3) o s in
-    let f : SFits w32 (get_or o (r.height - 3) (pos 0)) = search rules in
-    let g : SFits w32 (get_or o (r.height - 2) (pos 0)) = search rules in
-    let i : SFits w32 v = search rules in
+    let ws = c.in_ok-reference.field-0 in
+    let top = uppermost_three ws r c.in_ok-reference.ensures in
+    let f : SFits w32 (get_or ws 0 (pos 0)) = search rules in
+    let g : SFits w32 (get_or ws 1 (pos 0)) = search rules in
+    let i : SFits w32 (get_or ws 2 (pos 0)) = search rules in
     let j : SFits w32 (get_or h at.word (pos 0)) = search rules in
     let y : SFits w32 c.with_element.result = record { sfits = c.with_element.type_inv } in
-    let found = found_at kind _ (get_or o (r.height - 3) (pos 0)) _ (get_or o (r.height - 2) (pos 0)) r.free h (Ok at) (to_z-of_z w32 _ f) (to_z-of_z w32 _ g) c.in_ok-at.ensures.found in
-    let word : with_element kind at.index v (get_or h at.word (pos 0)) ≡ c.with_element.result = sym (simp to_z-of_z at c.with_element.ensures) in (
+    let found = found_at kind _ (get_or o (r.height - 3) (pos 0)) _ (get_or o (r.height - 2) (pos 0)) r.free h (Ok at) (to_z-of_z w32 _ f ∙ top.1) (to_z-of_z w32 _ g ∙ top.2) c.in_ok-at.ensures.found in
+    let word : with_element kind at.index v (get_or h at.word (pos 0)) ≡ c.with_element.result = ap (λ z. with_element kind at.index z (get_or h at.word (pos 0))) (sym top.3) ∙ sym (simp to_z-of_z at c.with_element.ensures) in (
       search rules,
       pops_three s (λ v i a x. element kind a i x.registers.free x.heap (put kind (pos c.args.next) v x)) (omega arith) ∙
           found (put kind (pos c.args.next) v x) ∙
