@@ -1,5 +1,4 @@
 pub mod Calls
-pub mod Inner
 pub mod Rings
 pub mod Rounds
 pub mod Slices

@@ -1,14 +1,8 @@
--- What a ring holds; what a console over two rings holds, and what feeding it does.
+-- What a console over two rings holds, and what feeding it does.
 use Rattle.std.specs.Prelude.{◌≡◌, ℕ, ◌-◌, ◌<◌, List, [], ◌∷◌, ◌++◌, length, ℤ, Ok, Err, Result}
 use Rattle.outcomes.specs.declared.Refusal.{Refusal}
 use Rattle.outcomes.specs.declared.Refusal.TheVariants.{InputFull}
-use Rattle.console.specs.declared.ring.Ring.{Ring}
 use Rattle.console.specs.declared.ring_console.RingConsole.{RingConsole}
-use Rattle.console.specs.Rounds.{along}
-
--- the items of a ring, the oldest first
-abbrev pub held : {A : Type 0} {n : ℕ} → Ring A n → List A
-held ring = along ring.first ring.count ring.items
 
 -- how many words can wait
 abbrev pub word_places : ℕ
@@ -20,11 +14,11 @@ byte_places = 512
 
 -- the words that wait
 abbrev pub waiting : RingConsole → List ℤ
-waiting console = held console.input
+waiting console = console.input
 
 -- the bytes written and not drained
 abbrev pub written : RingConsole → List ℕ
-written console = held console.output
+written console = console.output
 
 -- how many bytes more fit
 abbrev pub room : RingConsole → ℕ

@@ -3,18 +3,13 @@
 // Does not say what the words and bytes mean, and allocates nothing.
 //
 // src/slice_console.rt: a console over lent memory.
-// src/slice_console/host.rt: what its host calls.
-// src/slice_console/calls.rt: what a program calls.
 // src/ring.rt: a ring, which holds items in the order in which they came.
-// src/ring/size.rt: an empty ring, and how many items one holds.
-// src/ring/ends.rt: push behind the last item, pop the first.
 // src/ring_console.rt: a console that owns two rings, which its host feeds and drains.
 // src/tests.rt: a worked example of each.
 // specs/Calls.antt: what take and put do, on any console.
 // specs/Slices.antt: what a console over lent memory holds.
-// specs/Rounds.antt: the places of a ring, read round.
-// specs/Rings.antt: what a ring and a console over two rings hold, and what feed does.
-// specs/Inner.antt: what the private functions promise one another.
+// specs/Rounds.antt: the places of a ring, read round, and what pop does.
+// specs/Rings.antt: what a console over two rings holds, and what feed does.
 // proofs/: the laws of a ring, and of loops that append or move items.
 #![tactic(auto)]
 

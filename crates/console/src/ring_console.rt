@@ -37,7 +37,7 @@ impl RingConsole {
         ensures written { written self.new ≡ written self.old }
         ensures room { room self.new ≡ room self.old }
     {
-        if self.words_waiting() == WORDS {
+        if self.input.len() == WORDS {
             return Err(Refusal::InputFull);
         }
         self.input.push(word);

@@ -4,13 +4,15 @@
 #![tactic(auto)]
 
 ghost use Rattle.instructions.specs.Decode as spec;
-ghost use Rattle.std.specs.Prelude.{◌≡◌};
+ghost use Rattle.std.proofs.Common.{to_z};
+ghost use Rattle.std.specs.Int.{w16};
+ghost use Rattle.std.specs.Prelude.{◌≡◌, ◌+◌, ◌*◌};
 
 use words::arithmetic::{Operator, Relation};
 use words::printing::Kind;
 
 // Instruction is one step's work, with the short forms already read as the long ones.
-#[derive(Clone, Copy)]
+#[derive(Clone, Copy, PartialEq, Eq, Debug)]
 pub enum Instruction {
     Load(u8),
     Store(u8),
@@ -39,7 +41,7 @@ pub enum Instruction {
 }
 
 // Decoded is an instruction and the number of its bytes.
-#[derive(Clone, Copy)]
+#[derive(Clone, Copy, PartialEq, Eq, Debug)]
 pub struct Decoded {
     pub instruction: Instruction,
     pub size: u8,
@@ -49,6 +51,7 @@ pub struct Decoded {
 pub fn decode(bytes: &[u8]) -> Option<Decoded>
     ensures { result ≡ spec.decoded bytes.now }
 {
+    // An arm for each operator and relation: where a list gave those of a run of opcodes, a step took a tenth longer.
     match bytes {
         [1, n, ..] => sized(Instruction::Load(*n), 2),
         [op @ 2..=5, ..] => sized(Instruction::Load(*op - 2), 1),
@@ -77,30 +80,12 @@ pub fn decode(bytes: &[u8]) -> Option<Decoded>
         [40, ..] => sized(Instruction::Dup, 1),
         [41, ..] => sized(Instruction::Dup2, 1),
         [42, hi, lo, ..] => sized(Instruction::Jump(i16::from_be_bytes([*hi, *lo])), 3),
-        [43, hi, lo, ..] => sized(
-            Instruction::JumpIf(Relation::Equal, i16::from_be_bytes([*hi, *lo])),
-            3,
-        ),
-        [44, hi, lo, ..] => sized(
-            Instruction::JumpIf(Relation::NotEqual, i16::from_be_bytes([*hi, *lo])),
-            3,
-        ),
-        [45, hi, lo, ..] => sized(
-            Instruction::JumpIf(Relation::Less, i16::from_be_bytes([*hi, *lo])),
-            3,
-        ),
-        [46, hi, lo, ..] => sized(
-            Instruction::JumpIf(Relation::LessOrEqual, i16::from_be_bytes([*hi, *lo])),
-            3,
-        ),
-        [47, hi, lo, ..] => sized(
-            Instruction::JumpIf(Relation::Greater, i16::from_be_bytes([*hi, *lo])),
-            3,
-        ),
-        [48, hi, lo, ..] => sized(
-            Instruction::JumpIf(Relation::GreaterOrEqual, i16::from_be_bytes([*hi, *lo])),
-            3,
-        ),
+        [43, hi, lo, ..] => jump_if(Relation::Equal, *hi, *lo),
+        [44, hi, lo, ..] => jump_if(Relation::NotEqual, *hi, *lo),
+        [45, hi, lo, ..] => jump_if(Relation::Less, *hi, *lo),
+        [46, hi, lo, ..] => jump_if(Relation::LessOrEqual, *hi, *lo),
+        [47, hi, lo, ..] => jump_if(Relation::Greater, *hi, *lo),
+        [48, hi, lo, ..] => jump_if(Relation::GreaterOrEqual, *hi, *lo),
         [49, hi, lo, ..] => sized(Instruction::Call(i16::from_be_bytes([*hi, *lo])), 3),
         [50, ..] => sized(Instruction::Return, 1),
         [51, parameters, locals, ..] if parameters <= locals => sized(
@@ -115,6 +100,15 @@ pub fn decode(bytes: &[u8]) -> Option<Decoded>
         [57, n, ..] => sized(Instruction::Trap(*n), 2),
         _ => None,
     }
+}
+
+fn jump_if(relation: Relation, hi: u8, lo: u8) -> Option<Decoded>
+    ensures { result ≡ spec.sized 3 (Instruction.JumpIf relation (to_z w16 (hi * 256 + lo))) }
+{
+    sized(
+        Instruction::JumpIf(relation, i16::from_be_bytes([hi, lo])),
+        3,
+    )
 }
 
 fn sized(instruction: Instruction, size: u8) -> Option<Decoded>

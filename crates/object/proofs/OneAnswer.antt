@@ -1,6 +1,6 @@
 -- No file has two answers.
-use Rattle.std.proofs.Common.{◌≡◌, ℕ, ◌+◌, ◌-◌, ◌*◌, ◌/◌, ◌%◌, ◌<◌, ◌≤◌, Bool, true, false, ltb, ◌⊎◌, List, length, drop, Some, Ok, Err, Result, sym, refl, ap, ◌∙◌, subst, inl, inr, ⊎_elim, arith}
-use Rattle.std.proofs.lemmas.Bool.{ltb-true, ltb-false}
+use Rattle.std.proofs.Common.{◌≡◌, ℕ, ◌+◌, ◌-◌, ◌*◌, ◌/◌, ◌%◌, ◌<◌, List, length, drop, Some, Ok, Err, Result, sym, refl, ap, ◌∙◌, subst, ⊎_elim, arith}
+use Rattle.std.proofs.lemmas.Bool.{cases_order}
 use Rattle.outcomes.specs.declared.Refusal.{Refusal}
 use Rattle.outcomes.specs.declared.Refusal.TheVariants.{UnfitInstruction, UnfitTarget}
 use Rattle.object.specs.declared.checked.ObjectFault.{ObjectFault}
@@ -10,7 +10,6 @@ use Rattle.object.specs.Code.{Boundary, Unreadable}
 use Rattle.object.specs.Targets.{UnfitTargetAt, Lowest}
 use Rattle.object.specs.Inspection.{Headed, WellFormed, RefusedFor, header, instruction, target, FoundIn}
 use Rattle.object.proofs.Boundaries.{readable_before}
-use Rattle.object.proofs.Sizes.{nothing}
 
 -- a header's number is read back from its four bytes
 read_back : (n : ℕ) → n < 131072 → n / 16777216 % 256 * 16777216 + n / 65536 % 256 * 65536 + n / 256 % 256 * 256 + n % 256 ≡ n
@@ -35,22 +34,17 @@ one_object bytes o p a b =
 
 -- nothing behind an unreadable instruction is a boundary
 none_behind : (code : List ℕ) (at k : ℕ) → Unreadable code at → Boundary code k → at < k → ⊥
-none_behind code at k u b lt = let d = readable_before code at k u.begins.boundary b lt in nothing d.0 (sym u.none ∙ d.1)
-
-which : (a b : ℕ) (s t : Bool) → ltb a b ≡ s → ltb b a ≡ t → (a ≡ b) ⊎ ((a < b) ⊎ (b < a))
-which a b true t e f = inr (inl (ltb-true a b e))
-which a b false true e f = inr (inr (ltb-true b a f))
-which a b false false e f = let x : b ≤ a = ltb-false a b e in let y : a ≤ b = ltb-false b a f in inl (omega arith)
+none_behind code at k u b lt = let d = readable_before code at k u.begins.boundary b lt in absurd (cc (u.none, d.1))
 
 one_unreadable : (code : List ℕ) (a b : ℕ) → Unreadable code a → Unreadable code b → a ≡ b
 one_unreadable code a b u v =
-    ⊎_elim (λ e. e) (λ l. absurd (⊎_elim (λ x. none_behind code a b u v.begins.boundary x) (λ x. none_behind code b a v u.begins.boundary x) l)) (which a b (ltb a b) (ltb b a) refl refl)
+    ⊎_elim (λ e. e) (λ l. absurd (⊎_elim (λ x. none_behind code a b u v.begins.boundary x) (λ x. none_behind code b a v u.begins.boundary x) l)) (cases_order a b)
 
 not_whole : (code : List ℕ) (at : ℕ) → Unreadable code at → Boundary code (length code) → ⊥
 not_whole code at u b = none_behind code at (length code) u b u.begins.inside
 
 one_lowest : (P : ℕ → Type 0) (a b : ℕ) → Lowest P (Some a) → Lowest P (Some b) → a ≡ b
-one_lowest P a b x y = ⊎_elim (λ e. e) (λ l. absurd (⊎_elim (λ lt. y.1 a lt x.0) (λ lt. x.1 b lt y.0) l)) (which a b (ltb a b) (ltb b a) refl refl)
+one_lowest P a b x y = ⊎_elim (λ e. e) (λ l. absurd (⊎_elim (λ lt. y.1 a lt x.0) (λ lt. x.1 b lt y.0) l)) (cases_order a b)
 
 fault : (r : Refusal) (a b : ℕ) → a ≡ b → ◌≡◌ {A = ObjectFault} (record { refusal = r; offset = a }) (record { refusal = r; offset = b })
 fault r a b e = ap (λ (n : ℕ). record { refusal = r; offset = n }) e

@@ -1,52 +1,48 @@
--- Jumps and calls that lead to no instruction, and the lowest offset to blame.
-use Rattle.std.proofs.Common.{◌≡◌, ℕ, zero, suc, min, Bool, true, false, not, ltb, List, get_or, drop, replicate, ℤ, pos, ◌+ℤ◌, Some, None, Decides, Option, sym, refl, ap, ◌∙◌, subst, inl, inr, ⊎_elim, arith}
-use Rattle.std.proofs.lemmas.Bool.{both_ways, ltb-true, ltb-false}
+-- Where jumps and calls lead, and the lowest offset to blame.
+use Rattle.std.proofs.Common.{◌≡◌, ℕ, ◌^◌, ◌<◌, ◌≤◌, Bool, not, List, drop, ℤ, pos, negsuc, ◌+ℤ◌, ◌<ℤ◌, unsigned_abs, Some, None, Decides, Option, MatchOption, sym, refl, ap, subst, inl, ⊎_elim, arith}
+use Rattle.std.specs.Int.{w64, FitsUnsigned}
+use Rattle.std.proofs.lemmas.Int.{ints}
+use Rattle.std.proofs.lemmas.Bool.Decides.{Decides-like, Decides-not}
 use Rattle.instructions.specs.declared.Decoded.{Decoded}
 use Rattle.instructions.specs.Decode.{decoded}
 use Rattle.object.specs.Code.{Begins}
 use Rattle.object.specs.Targets.{distance_of, Lands, Strays, UnfitTargetAt, Lowest}
-use Rattle.object.proofs.Sizes.{nothing}
 
-same_some : {A : Type 0} (x y : A) → Some x ≡ Some y → x ≡ y
-same_some x y e = cc
+-- the distance that what is read leads
+abbrev pub leads : Option Decoded → Option ℤ
+leads None = None
+leads (Some d) = distance_of d.instruction
 
-pub unread : (code : List ℕ) (at : ℕ) → decoded (drop at code) ≡ None → Strays code at → ⊥
-unread code at e s = nothing s.what (sym e ∙ s.reads)
+-- a distance that is asked of what is read, by a closure whose promise is P
+pub leads_by : (o : Option Decoded) (q : Option ℤ) (P : Decoded → Type 0) → MatchOption o (q ≡ None) P → ((d : Decoded) → P d → q ≡ distance_of d.instruction) → leads o ≡ q
+leads_by None q P m h = sym m
+leads_by (Some d) q P m h = sym (h d m)
 
-pub still : (code : List ℕ) (at : ℕ) (d : Decoded) → decoded (drop at code) ≡ Some d → distance_of d.instruction ≡ None → Strays code at → ⊥
-still code at d e f s =
-    let one : d ≡ s.what = same_some d s.what (sym e ∙ s.reads) in
-    nothing s.by (sym f ∙ ap (λ (x : Decoded). distance_of x.instruction) one ∙ s.leads)
+strays_if : (code : List ℕ) (at : ℕ) (by : ℤ) (o : Option Decoded) → decoded (drop at code) ≡ o → leads o ≡ Some by → Begins code at → (Lands code (pos at +ℤ by) → ⊥) → Strays code at
+strays_if code at by None e f b non = absurd (cc)
+strays_if code at by (Some d) e f b non = record { begins = b; what = d; reads = e; by = by; leads = f; nowhere = non }
 
-strays_if : (code : List ℕ) (at : ℕ) (d : Decoded) (by : ℤ) → Begins code at → decoded (drop at code) ≡ Some d → distance_of d.instruction ≡ Some by → (Lands code (pos at +ℤ by) → ⊥) → Strays code at
-strays_if code at d by b e f non = record { begins = b; what = d; reads = e; by = by; leads = f; nowhere = non }
+-- an instruction that leads nowhere else is not to blame
+pub fit_without : (code : List ℕ) (main at : ℕ) → leads (decoded (drop at code)) ≡ None → Begins code at → UnfitTargetAt code main at → ⊥
+fit_without code main at e b u = ⊎_elim (λ s. let l = ap leads s.reads in cc (l, e, s.leads)) (λ p. p.1 b) u
 
-strays_not : (code : List ℕ) (at : ℕ) (d : Decoded) (by : ℤ) → decoded (drop at code) ≡ Some d → distance_of d.instruction ≡ Some by → Lands code (pos at +ℤ by) → Strays code at → ⊥
-strays_not code at d by e f l s =
-    let one : d ≡ s.what = same_some d s.what (sym e ∙ s.reads) in
-    let same : by ≡ s.by = same_some by s.by (sym f ∙ ap (λ (x : Decoded). distance_of x.instruction) one ∙ s.leads) in
-    s.nowhere (subst (λ z. Lands code (pos at +ℤ z)) same l)
+-- one that leads by a distance is to blame exactly where it does not land
+pub decides_unfit : (code : List ℕ) (main at : ℕ) (by : ℤ) (r : Bool) → leads (decoded (drop at code)) ≡ Some by → Begins code at → Decides r (Lands code (pos at +ℤ by)) → Decides (not r) (UnfitTargetAt code main at)
+decides_unfit code main at by r e b d =
+    Decides-like (not r) (λ non. inl (strays_if code at by (decoded (drop at code)) refl e b non))
+    (⊎_elim (λ s l. let same : by ≡ s.by = cc (ap leads s.reads, e, s.leads) in s.nowhere (subst (λ z. Lands code (pos at +ℤ z)) same l)) (λ p l. p.1 b))
+    (Decides-not r d)
 
-pub decides_strays : (code : List ℕ) (at : ℕ) (d : Decoded) (by : ℤ) (r : Bool) → Begins code at → decoded (drop at code) ≡ Some d → distance_of d.instruction ≡ Some by → Decides r (Lands code (pos at +ℤ by)) → Decides (not r) (Strays code at)
-decides_strays code at d by true b e f l = (λ h. absurd (both_ways true (sym h) refl), λ s. absurd (strays_not code at d by e f (l.0 refl) s))
-decides_strays code at d by false b e f l = (λ h. strays_if code at d by b e f (λ x. both_ways false refl (l.1 x)), λ s. refl)
+-- no instruction begins at a negative number
+pub lands_not : (code : List ℕ) (z : ℤ) → z <ℤ pos (2 ^ 64) → (FitsUnsigned w64 z → ⊥) → Lands code z → ⊥
+lands_not code (pos n) h f l = f (omega (arith, ints), h)
+lands_not code (negsuc n) h f l = let e = l.is in cc
 
--- where an instruction begins at the main address, only strays count
-pub with_main : (code : List ℕ) (main : ℕ) (r : Option ℕ) → Begins code main → Lowest (Strays code) r → Lowest (UnfitTargetAt code main) r
-with_main code main None b h = λ k u. ⊎_elim (h k) (λ p. p.1 (subst (Begins code) (sym p.0) b)) u
-with_main code main (Some at) b h = (inl h.0, λ k lt u. ⊎_elim (h.1 k lt) (λ p. p.1 (subst (Begins code) (sym p.0) b)) u)
+pub decides_lands : (code : List ℕ) (z : ℤ) (t : ℕ) (r : Bool) → FitsUnsigned w64 z → t ≡ unsigned_abs z → Decides r (Begins code t) → Decides r (Lands code z)
+decides_lands code (pos n) t r f e d = Decides-like r (λ here. record { offset = t; is = ap pos (sym e); begins = here }) (λ l. subst (Begins code) (let i = l.is in cc) l.begins) d
+decides_lands code (negsuc n) t r f e d = absurd (f.0.le)
 
-pub without_main : (code : List ℕ) (main : ℕ) → (Begins code main → ⊥) → Lowest (Strays code) None → Lowest (UnfitTargetAt code main) (Some main)
-without_main code main non h = (inr (refl, non), λ k lt u. ⊎_elim (h k) (λ p. omega (arith, p.0)) u)
-
-lower_of : (code : List ℕ) (main at : ℕ) (t : Bool) → ltb at main ≡ t → (Begins code main → ⊥) → Strays code at → UnfitTargetAt code main (min at main)
-lower_of code main at true e non s = let m : at ≡ min at main = omega (arith, ltb-true at main e) in subst (UnfitTargetAt code main) m (inl s)
-lower_of code main at false e non s = let m : main ≡ min at main = omega (arith, ltb-false at main e) in subst (UnfitTargetAt code main) m (inr (refl, non))
-
-pub lower : (code : List ℕ) (main at : ℕ) → (Begins code main → ⊥) → Lowest (Strays code) (Some at) → Lowest (UnfitTargetAt code main) (Some (min at main))
-lower code main at non h = (lower_of code main at (ltb at main) refl non h.0, λ k lt u. ⊎_elim (h.1 k (omega arith)) (λ p. omega (arith, p.0)) u)
-
-pub all_blank : (n k : ℕ) → get_or (replicate n false) k false ≡ false
-all_blank zero k = refl
-all_blank (suc n) zero = refl
-all_blank (suc n) (suc k) = all_blank n k
+-- what is found first is the lowest
+pub lowest : (P : ℕ → Type 0) (n : ℕ) (r : Option ℕ) → ((k : ℕ) → P k → k < n) → MatchOption r ((k : ℕ) → 0 ≤ k → k < n → P k → ⊥) (λ i. (0 ≤ i) × (i < n) × P i × ((k : ℕ) → 0 ≤ k → k < i → P k → ⊥)) → Lowest P r
+lowest P n None within m = λ k p. m k (omega arith) (within k p) p
+lowest P n (Some i) within m = (m.2, λ k lt p. m.3 k (omega arith) lt p)

@@ -1,32 +1,52 @@
-ghost use Rattle.std.specs.Prelude.{◌≡◌, ◌+◌, ◌≤◌, length};
 ghost use Rattle.object.specs.Inspection.{HeaderRead};
-ghost use Rattle.object.specs.Numbers.{number_at};
 
-use crate::checked::Checked;
+use crate::checked::ObjectFault;
+use outcomes::Refusal;
 
-// number_at gives the number whose four bytes begin at an offset.
-fn number_at(bytes: &[u8], at: usize) -> usize
-    requires { at + 4 ≤ length bytes.now }
-    ensures { result ≡ number_at bytes.now at }
-{
-    u32::from_be_bytes([bytes[at], bytes[at + 1], bytes[at + 2], bytes[at + 3]]) as usize
+// Header is what a header says, and the code behind it.
+#[derive(Drop)]
+pub(crate) struct Header<'a> {
+    pub(crate) code: &'a [u8],
+    pub(crate) globals: usize,
+    pub(crate) main: usize,
 }
 
-// read_header gives what a file holds, or None where its header or its length is unfit.
-pub(crate) fn read_header(bytes: &[u8]) -> Option<Checked<'_>>
+// read_header gives what a file holds, or refuses it for its header or its length.
+pub(crate) fn read_header(bytes: &[u8]) -> Result<Header<'_>, ObjectFault>
     ensures { HeaderRead bytes.now result }
 {
-    if bytes.len() < 14 || bytes[0] != b'M' || bytes[1] != b'J' {
-        return None;
+    const UNFIT: ObjectFault = ObjectFault {
+        refusal: Refusal::UnfitHeader,
+        offset: 0,
+    };
+    let [
+        b'M',
+        b'J',
+        s0,
+        s1,
+        s2,
+        s3,
+        g0,
+        g1,
+        g2,
+        g3,
+        m0,
+        m1,
+        m2,
+        m3,
+        code @ ..,
+    ] = bytes
+    else {
+        return Err(UNFIT);
+    };
+    let size = u32::from_be_bytes([*s0, *s1, *s2, *s3]) as usize;
+    let globals = u32::from_be_bytes([*g0, *g1, *g2, *g3]) as usize;
+    let main = u32::from_be_bytes([*m0, *m1, *m2, *m3]) as usize;
+    if code.len() != size || size < 1 || size > 8192 || globals > 65536 || main >= size {
+        return Err(UNFIT);
     }
-    let size = number_at(bytes, 2);
-    let globals = number_at(bytes, 6);
-    let main = number_at(bytes, 10);
-    if size < 1 || size > 8192 || globals > 65536 || main >= size || bytes.len() - 14 != size {
-        return None;
-    }
-    Some(Checked {
-        code: &bytes[14..],
+    Ok(Header {
+        code,
         globals,
         main,
     })

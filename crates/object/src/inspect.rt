@@ -1,56 +1,50 @@
-ghost use Rattle.object.specs.Inspection.{InspectedAs, InspectionHasOneAnswer, object_of};
+ghost use Rattle.object.specs.Fit.{WellFormed};
+ghost use Rattle.object.specs.Inspection.{FoundIn, InspectionHasOneAnswer};
 ghost use Rattle.std.specs.Prelude.{◌≡◌};
 
 use crate::checked::{Checked, ObjectFault};
 use crate::header::read_header;
-use crate::starts::mark_starts;
-use crate::targets::unfit_target;
+use crate::starts::Starts;
 use outcomes::Refusal;
 
 // inspect accepts exactly the object files: a Checked stands for these bytes, any other file is refused.
 pub fn inspect(bytes: &[u8]) -> Result<Checked<'_>, ObjectFault>
-    ensures { InspectedAs bytes.now result }
+    ensures { FoundIn bytes.now result }
 {
-    let Some(checked) = read_header(bytes) else {
+    let header = read_header(bytes)?;
+    let starts = Starts::of(header.code)?;
+    if let Some(offset) = starts.first_unfit(header.main) {
         return Err(ObjectFault {
-            refusal: Refusal::UnfitHeader,
-            offset: 0,
-        });
-    };
-    let mut starts = [false; 8192];
-    if let Err(at) = mark_starts(checked.code, &mut starts) {
-        return Err(ObjectFault {
-            refusal: Refusal::UnfitInstruction,
-            offset: at,
-        });
-    }
-    match unfit_target(checked.code, checked.main, &starts) {
-        Some(at) => Err(ObjectFault {
             refusal: Refusal::UnfitTarget,
-            offset: at,
-        }),
-        None => Ok(checked),
+            offset,
+        });
     }
+    Ok(Checked {
+        code: header.code,
+        globals: header.globals,
+        main: header.main,
+    })
 }
 
 impl<'a> Checked<'a> {
     // code gives the bytes behind the header.
     pub fn code(&self) -> &'a [u8]
-        ensures { result.now ≡ (object_of self.now).code }
+        ensures { result.now ≡ self.now.code }
     {
         self.code
     }
 
     // globals gives the number of global words.
     pub fn globals(&self) -> usize
-        ensures { result ≡ (object_of self.now).globals }
+        ensures { result ≡ self.now.globals }
     {
         self.globals
     }
 
-    // main gives the main address.
+    // main gives the main address, and says what every Checked keeps: the object is well formed.
     pub fn main(&self) -> usize
-        ensures { result ≡ (object_of self.now).main }
+        ensures value { result ≡ self.now.main }
+        ensures formed { WellFormed self.now }
     {
         self.main
     }

@@ -1,21 +1,100 @@
-ghost use Rattle.std.specs.Prelude.{◌≡◌, ℕ, ◌<◌, ◌≤◌, false, length, replicate};
-ghost use Rattle.object.specs.Marks.{Marked, unmarked};
+ghost use Rattle.std.specs.Prelude.{◌≡◌, ◌<◌, ◌≤◌, length, pos, ◌+ℤ◌, Decides};
+ghost use Rattle.object.specs.Code.{Begins};
+ghost use Rattle.object.specs.Marks.{StartsFound};
+ghost use Rattle.object.specs.Targets.{Lands, Lowest, UnfitTargetAt, distance_of};
 
-use instructions::decode;
+use crate::checked::ObjectFault;
+use instructions::{Instruction, decode};
+use outcomes::Refusal;
+use std::marker::Model;
 
-// mark_starts marks the offsets where instructions begin, or gives the first where an unreadable one does.
-pub(crate) fn mark_starts(code: &[u8], starts: &mut [bool; 8192]) -> Result<(), usize>
-    requires short { length code.now ≤ 8192 }
-    requires blank { (k : ℕ) → unmarked starts.old k }
-    ensures { Marked result code.now starts.new }
+// Starts tells where the instructions of a code begin.
+#[derive(Drop)]
+pub(crate) struct Starts<'a> {
+    code: &'a [u8],
+    marks: [bool; 8192],
+}
+
+// Clauses see the code.
+impl<'a> Model for Starts<'a> {
+    ghost use Rattle.std.specs.Prelude.{ℕ, ◌≤◌, List, length};
+    ghost use Rattle.object.specs.Marks.{Marks};
+
+    ghost Value = { List ℕ };
+
+    ghost view = { λ s. s.code.now };
+
+    ghost invariant = { λ s. (length s.code.now ≤ 8192) × Marks s.code.now s.marks };
+}
+
+// distance gives how far a jump or call leads from its own first byte.
+fn distance(i: Instruction) -> Option<i16>
+    ensures { result ≡ distance_of i }
 {
-    let mut at = 0;
-    while at < code.len() {
-        let Some(found) = decode(&code[at..]) else {
-            return Err(at);
-        };
-        starts[at] = true;
-        at += found.size as usize;
+    match i {
+        Instruction::Jump(by) | Instruction::JumpIf(_, by) | Instruction::Call(by) => Some(by),
+        _ => None,
     }
-    Ok(())
+}
+
+impl<'a> Starts<'a> {
+    // of finds where the instructions begin, or refuses the code for the first that is unreadable.
+    pub(crate) fn of(code: &'a [u8]) -> Result<Starts<'a>, ObjectFault>
+        requires { length code.now ≤ 8192 }
+        ensures { StartsFound code.now result }
+    {
+        let mut marks = [false; 8192];
+        // The next offset is behind an instruction of any size: no range and no chunks give it.
+        let mut at = 0;
+        while at < code.len() {
+            let found = decode(&code[at..]).ok_or(ObjectFault {
+                refusal: Refusal::UnfitInstruction,
+                offset: at,
+            })?;
+            marks[at] = true;
+            at += found.size as usize;
+        }
+        Ok(Starts { code, marks })
+    }
+
+    // begins tells whether an instruction begins at an offset.
+    fn begins(&self, at: usize) -> bool
+        ensures { Decides result (Begins self.now at) }
+    {
+        self.marks.get(at).copied().unwrap_or(false)
+    }
+
+    // lands tells whether an instruction begins that far from an offset.
+    fn lands(&self, at: usize, by: i16) -> bool
+        requires { at < 8192 }
+        ensures { Decides result (Lands self.now (pos at +ℤ by)) }
+    {
+        let Some(target) = at.checked_add_signed(by as isize) else {
+            return false;
+        };
+        self.begins(target)
+    }
+
+    // unfit tells whether an offset is to blame: that of a jump or call that does not lead to an instruction,
+    // or the main address where none begins.
+    fn unfit(&self, at: usize, main: usize) -> bool
+        ensures { Decides result (UnfitTargetAt self.now main at) }
+    {
+        if !self.begins(at) {
+            return at == main;
+        }
+        let found = decode(&self.code[at..]);
+        let Some(by) = found.and_then(|found| distance(found.instruction)) else {
+            return false;
+        };
+        !self.lands(at, by)
+    }
+
+    // first_unfit gives the lowest offset to blame for a target where no instruction begins.
+    pub(crate) fn first_unfit(&self, main: usize) -> Option<usize>
+        requires { main < length self.now }
+        ensures { Lowest (UnfitTargetAt self.now main) result }
+    {
+        (0..self.code.len()).find(|&at| self.unfit(at, main))
+    }
 }

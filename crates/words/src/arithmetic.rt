@@ -31,29 +31,9 @@ impl Operator {
             Operator::Add => Some(a.wrapping_add(b)),
             Operator::Subtract => Some(a.wrapping_sub(b)),
             Operator::Multiply => Some(a.wrapping_mul(b)),
-            Operator::Divide => quotient(a, b),
-            Operator::Remainder => remainder(a, b),
+            Operator::Divide => (b != 0).then(|| a.wrapping_div(b)),
+            Operator::Remainder => (b != 0).then(|| a.wrapping_rem(b)),
         }
-    }
-}
-
-fn quotient(a: i32, b: i32) -> Option<i32>
-    ensures { result ≡ spec.compute Operator.Divide a b }
-{
-    if b == 0 {
-        None
-    } else {
-        Some(a.wrapping_div(b))
-    }
-}
-
-fn remainder(a: i32, b: i32) -> Option<i32>
-    ensures { result ≡ spec.compute Operator.Remainder a b }
-{
-    if b == 0 {
-        None
-    } else {
-        Some(a.wrapping_rem(b))
     }
 }
 

@@ -8,6 +8,7 @@ pub enum Kind {
 }
 
 // Text is what one print writes, at most 255 bytes.
+// Digits come from the last to the first, so it stands at the end of its bytes, where no vector has its items.
 #[derive(Drop)]
 pub struct Text {
     pub(crate) bytes: [u8; 255],
@@ -16,6 +17,7 @@ pub struct Text {
 }
 
 // write_digits writes n in decimal to the end of out, and gives where its digits begin.
+// With itoa a print took a third longer by its write_digits, and twice as long by its Buffer and a copy.
 pub(crate) fn write_digits(n: u32, out: &mut [u8; 255]) -> usize
     ensures text { out.new ≡ take result out.old ++ decimal n }
     ensures place { result + length (decimal n) ≡ 255 }

@@ -1,15 +1,31 @@
-use Rattle.object.specs.Inspection.{object_of, header, instruction, target}
-use Rattle.object.proofs.Straying.{all_blank}
+use Rattle.std.proofs.Common.{None, Some, sym, subst}
+use Rattle.std.proofs.lemmas.Result.{err_from_is_err_and}
+use Rattle.object.specs.Targets.{Lowest, UnfitTargetAt}
+use Rattle.object.specs.Inspection.{WellFormed, RefusedFor, instruction, target}
 use Rattle.object.proofs.inspect.inspect.Goals as goal
 
-pub returns-in_default : goal.returns-in_default
-returns-in_default c = header c.in_default.ensures
+pub returns-in_err-starts : goal.returns-in_err-starts
+returns-in_err-starts c =
+    let p = err_from_is_err_and c.from_residual-in_err-starts.result c.from_residual-in_err-starts.ensures.1 in
+    let f = c.in_err-starts.field-0.0 in
+    let e = c.in_err-starts.ensures in
+    rw (p.1, p.2) (subst (λ r. RefusedFor c.args.bytes.now (record { refusal = r; offset = f.offset })) (sym e.0) (instruction _ _ c.in_ok-header.ensures e.1))
 
-pub mark_starts-requires : goal.mark_starts-requires
-mark_starts-requires c = record { short = c.in-Some.ensures.limits.code_short; blank = λ k. all_blank 8192 k }
+pub returns-in-Some : goal.returns-in-Some
+returns-in-Some c =
+    let h = c.in_ok-header.header in
+    let s = c.in_ok-starts.ensures in
+    let low : Lowest (UnfitTargetAt h.code.now h.main) (Some c.in-Some.offset) = subst (λ code. Lowest (UnfitTargetAt code h.main) (Some c.in-Some.offset)) s.0 c.in-Some.ensures in
+    target _ _ c.in_ok-header.ensures s.1 low
 
-pub returns-in-Err : goal.returns-in-Err
-returns-in-Err c = instruction (object_of c.in-Some.checked) _ c.in-Some.ensures c.in-Err.ensures
+formed : (c : goal.After-result-1) → WellFormed (record { code = c.in_ok-header.header.code.now; globals = c.in_ok-header.header.globals; main = c.in_ok-header.header.main })
+formed c =
+    let h = c.in_ok-header.header in
+    let s = c.in_ok-starts.ensures in
+    record { limits = c.in_ok-header.ensures.limits; whole = s.1; targets = subst (λ code. Lowest (UnfitTargetAt code h.main) None) s.0 c.in_default.ensures }
 
-pub returns-in-Some-unfit_target : goal.returns-in-Some-unfit_target
-returns-in-Some-unfit_target c = target (object_of c.in-Some.checked) _ c.in-Some.ensures c.in_default-mark_starts.ensures.0 c.in-Some-unfit_target.ensures
+pub invariant_of-result : goal.invariant_of-result
+invariant_of-result c = formed c
+
+pub returns : goal.returns
+returns c = (c.in_ok-header.ensures.file, formed c)
