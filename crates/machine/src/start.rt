@@ -1,6 +1,5 @@
 ghost use Rattle.machine.specs.Answers.{StartedAs};
 ghost use Rattle.machine.specs.Machines.{SameStores, contents};
-ghost use Rattle.object.specs.Inspection.{WellFormed, object_of};
 
 use crate::lengths::Lengths;
 use crate::machine::Machine;
@@ -11,9 +10,8 @@ use step::registers::Registers;
 
 // start makes a machine of an inspected object, in stores that it clears; or refuses the stores, and changes nothing.
 pub fn start<'a>(checked: Checked<'a>, stores: &mut Stores<'_>) -> Result<Machine<'a>, Refusal>
-    requires { WellFormed (object_of checked) }
     ensures same { SameStores stores.old stores.new }
-    ensures started { StartedAs (object_of checked.entry) result (contents stores.old) (contents stores.new) }
+    ensures started { StartedAs checked.entry result (contents stores.old) (contents stores.new) }
 {
     let lengths = Lengths::of(stores);
     if !lengths.suffice(checked.globals()) {

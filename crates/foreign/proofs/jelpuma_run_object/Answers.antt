@@ -5,7 +5,6 @@ use native.Mathlib.Omega.{arith}
 use lib.ListN.{set}
 use lib.Seq.{get_or-set_same}
 use Rattle.outcomes.specs.Numbers.{number_of_refusal}
-use Rattle.object.specs.Inspection.{object_of}
 use Rattle.foreign.specs.Reports.{Declines, file, store, short}
 use Rattle.foreign.proofs.jelpuma_run_object.Goals as goal
 
@@ -21,10 +20,10 @@ pub returns-in-Err-start : goal.returns-in-Err-start
 returns-in-Err-start c =
     let s = c.in-Err-start.ensures.started in
     let i = c.in-Ok.ensures in
-    inr (subst (Declines c.args.object.now _ (set c.args.report.now 0 0)) (sym (c.number-in-Err-start.ensures ∙ ap number_of_refusal s.0)) (store (object_of c.in-Ok.checked) i.0 i.1 s.1), search (rules, s.2))
+    inr (subst (Declines c.args.object.now _ (set c.args.report.now 0 0)) (sym (c.number-in-Err-start.ensures ∙ ap number_of_refusal s.0)) (store c.in-Ok.checked i.0 i.1 s.1), search (rules, s.2))
 
 pub returns : goal.returns
 returns c =
     let i = c.in-Ok.ensures in
     let s = c.in-Ok-start.ensures.started in
-    inl (refl, record { object = object_of c.in-Ok.checked; file = i.0; formed = i.1; suffices = s.0 })
+    inl (refl, record { object = c.in-Ok.checked; file = i.0; formed = i.1; suffices = s.0 })
