@@ -1,5 +1,6 @@
 use object::checked::ObjectFault;
-use outcomes::{Pause, Refusal, Verdict};
+use outcomes::Refusal;
+pub use outcomes::Stop;
 
 // Answer is what a command has to say about a file or a run.
 #[derive(Drop)]
@@ -26,11 +27,4 @@ pub struct Report {
     pub taken: usize,
     pub bytes: Vec<u8>,
     pub globals: Vec<i32>,
-}
-
-// Stop is how a run came to its end.
-#[derive(Clone, Copy)]
-pub enum Stop {
-    Ended(Verdict),
-    Paused(Pause),
 }
