@@ -1,5 +1,5 @@
 -- Arguments, one by one.
-use Rattle.std.proofs.Common.{◌≡◌, ℕ, ◌+◌, ◌-◌, ◌<◌, ◌≤◌, List, [], ◌∷◌, length, get_or, take, drop, Some, sym, refl, ap, ◌∙◌, add-one, arith, drop-cons, Bor}
+use Rattle.std.proofs.Common.{◌≡◌, ℕ, ◌+◌, ◌-◌, ◌<◌, ◌≤◌, List, [], ◌∷◌, length, get_or, take, drop, Some, None, Option, MatchOption, Ok, Result, sym, refl, ap, ◌∙◌, add-one, arith, drop-cons, Bor}
 use Rattle.std.proofs.lemmas.List.{drop_all, drop-map, take_rest}
 use Rattle.commands.specs.declared.arguments.Command.{Command}
 use Rattle.commands.specs.declared.failure.Failure.{Failure}
@@ -13,6 +13,11 @@ nowhere = record { ref_ptr = (0, 0); now = [] }
 pub no_texts : (xs : List (Bor (List ℕ))) → length xs < 1 → texts_of xs ≡ []
 no_texts [] h = refl
 no_texts (x ∷ xs) h = absurd (omega arith)
+
+-- where a value is found, or else an error is made
+pub found : {A : Type 0} (E : Type 0) (o : Option A) (x : A) → MatchOption o ⊥ (λ y. ◌≡◌ {A = Result A E} (Ok x) (Ok y)) → Some x ≡ o
+found E None x h = absurd h
+found E (Some y) x h = cc
 
 -- a command is known, and what stands behind it decides
 pub known : (xs rest : List (Bor (List ℕ))) (c : Command) → rest ≡ drop 1 xs → 1 ≤ length xs → Some c ≡ command_named (get_or xs 0 nowhere).now → understood (texts_of xs) ≡ understood_at (texts_of rest) c
