@@ -151,17 +151,16 @@ impl<'a> Reading<'a> {
         ensures command { self.new.command ≡ self.old.command }
         ensures path { self.new.path.now ≡ self.old.path.now }
     {
-        let heap = self.heap;
         if let Some(setting) = self.awaited {
-            let n = number_in(text).ok_or_else(|| unclear(heap, text))?;
+            let n = number_in(text).ok_or_else(|| unclear(self.heap, text))?;
             self.options.set(setting, n);
             self.awaited = None;
             return Ok(());
         }
-        match argument_in(text) {
-            Some(argument) if self.command.takes(argument) => Ok(self.add(argument)?),
-            _ => Err(unclear(heap, text)),
-        }
+        let argument = argument_in(text)
+            .filter(|argument| self.command.takes(*argument))
+            .ok_or_else(|| unclear(self.heap, text))?;
+        Ok(self.add(argument)?)
     }
 
     // finish gives the request that the command makes when all its arguments are read.

@@ -31,8 +31,8 @@ impl fmt::Display for Operands {
             Instruction::GetStatic(n) | Instruction::PutStatic(n) => write!(f, " {n}"),
             Instruction::Const(word) => write!(f, " {word}"),
             Instruction::Increment(n, by) => write!(f, " {n} {by}"),
-            Instruction::NewArray(Kind::Char) => write!(f, " 0"),
-            Instruction::NewArray(Kind::Int) => write!(f, " 1"),
+            Instruction::NewArray(Kind::Char) => f.write_str(" 0"),
+            Instruction::NewArray(Kind::Int) => f.write_str(" 1"),
             Instruction::Jump(by) | Instruction::JumpIf(_, by) | Instruction::Call(by) => {
                 let target = self.at as i128 + by as i128;
                 write!(f, " {by} -> {target}")
@@ -58,7 +58,7 @@ impl fmt::Display for Line {
         let Line { at, opcode, found } = *self;
         let name = mnemonic(opcode);
         let operands = Operands { at, found };
-        write!(f, "{at:>4}  {name}{operands}\n")
+        writeln!(f, "{at:>4}  {name}{operands}")
     }
 }
 
@@ -68,6 +68,7 @@ pub fn listing(heap: Global, summary: Summary, code: &[u8]) -> Result<String, Al
     ensures { IfOk result (λ text. string_bytes text ≡ listing_of summary code.now) }
 {
     let mut text = summary.to_string(heap)?;
+    // at is counted here: it is printed, and so is what lies a distance from it, so a walk over slices would count it too
     let mut at = 0;
     while let Some(found) = decode(&code[at..]) {
         let opcode = code[at];

@@ -8,6 +8,7 @@ use std::alloc::{AllocError, Global};
 
 // Reply is what a command prints. An answer goes to the standard output and ends with status 0,
 // a refusal goes to the standard error output and ends with status 1.
+// It is no Result: a refusal is an answer that was given, and the Result of reply_to is about memory.
 #[derive(Drop)]
 pub enum Reply {
     Answered(Vec<u8>),

@@ -17,8 +17,8 @@ impl fmt::Display for StopLine {
 
     fn fmt<W: fmt::Write>(&self, f: &mut fmt::Formatter<W>) -> fmt::Result {
         match self.0 {
-            Stop::Ended(verdict) => write!(f, "verdict {}: {verdict}\n", verdict.number()),
-            Stop::Paused(pause) => write!(f, "pause {}: {pause}\n", pause.number()),
+            Stop::Ended(verdict) => writeln!(f, "verdict {}: {verdict}", verdict.number()),
+            Stop::Paused(pause) => writeln!(f, "pause {}: {pause}", pause.number()),
         }
     }
 }
@@ -32,11 +32,8 @@ impl fmt::Display for GlobalsText<'_> {
 
     fn fmt<W: fmt::Write>(&self, f: &mut fmt::Formatter<W>) -> fmt::Result {
         match self.0 {
-            [] => write!(f, " none"),
-            words => {
-                let each = EachBehind { mark: " ", words };
-                write!(f, "{each}")
-            }
+            [] => f.write_str(" none"),
+            words => EachBehind { mark: " ", words }.fmt(f),
         }
     }
 }
@@ -85,9 +82,9 @@ impl fmt::Display for Summary {
             globals,
             main,
         } = self;
-        write!(
+        writeln!(
             f,
-            "code size {code_size}, globals {globals}, main address {main}\n"
+            "code size {code_size}, globals {globals}, main address {main}"
         )
     }
 }
