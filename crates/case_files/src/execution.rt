@@ -5,7 +5,7 @@ use crate::case::{Case, case_in};
 use crate::host::Host;
 use crate::outcome::{Ending, Outcome};
 use crate::stores::Stores;
-use anyhow::anyhow;
+use anyhow::{Context, anyhow};
 use console::{Console, RingConsole, SliceConsole};
 use machine::advance::advance;
 use machine::machine::{Machine, Progress};
@@ -87,7 +87,7 @@ impl Execution<'_> {
         } = self;
         let mut left = budget;
         for run in 0..MOST_RUNS {
-            let (stop, goes_on) = match advance(
+            match advance(
                 machine,
                 way.budget(run, left),
                 stores.data.as_mut_slice(),
@@ -109,22 +109,21 @@ impl Execution<'_> {
                     steps,
                 } => {
                     left -= steps;
-                    machine = paused;
                     let attended = attend(console)?;
                     let goes_on = match pause {
                         Pause::Budget => left > 0,
                         Pause::Input | Pause::Output => attended,
                     };
-                    (Stop::Paused(pause), goes_on)
+                    if !goes_on {
+                        return Ok(Driven {
+                            stop: Stop::Paused(pause),
+                            steps: budget - left,
+                            stores,
+                        });
+                    }
+                    machine = paused;
                 }
                 Progress::Refused { .. } => return Err(anyhow!("a run is refused")),
-            };
-            if !goes_on {
-                return Ok(Driven {
-                    stop,
-                    steps: budget - left,
-                    stores,
-                });
             }
         }
         Err(anyhow!("there are too many runs"))
@@ -180,9 +179,7 @@ pub(crate) fn executed(
         room,
         budget,
     } = case_in(heap, given)?;
-    let Ok(checked) = inspect(&object) else {
-        return Err(anyhow!("an object is refused"));
-    };
+    let checked = inspect(&object).ok().context("an object is refused")?;
     let globals = checked.globals();
     let machine = match start(
         checked,
