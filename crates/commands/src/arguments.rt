@@ -1,11 +1,11 @@
-ghost use Rattle.commands.specs.Arguments.{accepted, added, argument_in, asked_of, command_named, finished, nothing_said, option_named, reading_of, set, takes, texts_of, understood};
+ghost use Rattle.commands.specs.Arguments.{accepted, argument_in, asked_of, command_named, finished, option_named, reading_of, set, takes, texts_of, understood};
 ghost use Rattle.commands.specs.Understood.{UnderstoodAs, Unclear};
-ghost use Rattle.std.specs.Prelude.{◌≡◌, OnOk};
+ghost use Rattle.std.specs.Prelude.{◌≡◌};
 
 use crate::failure::Failure;
 use crate::numbers::{number_in, word_in};
 use crate::request::{Options, Request};
-use std::alloc::{AllocError, Global};
+use std::alloc::Global;
 
 // Command is what the first argument names.
 #[derive(Clone, Copy)]
@@ -113,38 +113,7 @@ fn unclear(heap: Global, text: &str) -> Failure
     String::from_str(heap, text).map_or(Failure::NoMemory, Failure::Unclear)
 }
 
-impl<'a> Reading<'a> {
-    // new is a reading of a command and a path, behind which nothing is said yet.
-    fn new(heap: Global, command: Command, path: &'a str) -> Reading<'a>
-        ensures reading { reading_of result ≡ nothing_said }
-        ensures command { result.command ≡ command }
-        ensures path { result.path.now ≡ path.now }
-    {
-        Reading {
-            heap,
-            command,
-            path,
-            words: Vec::new(heap),
-            options: Options::DEFAULTS,
-            json: false,
-            awaited: None,
-        }
-    }
-
-    // add takes in what an argument says.
-    fn add(&mut self, argument: Argument) -> Result<(), AllocError>
-        ensures reading { OnOk result (reading_of self.new ≡ added argument (reading_of self.old)) }
-        ensures command { self.new.command ≡ self.old.command }
-        ensures path { self.new.path.now ≡ self.old.path.now }
-    {
-        match argument {
-            Argument::Json => self.json = true,
-            Argument::Setting(setting) => self.awaited = Some(setting),
-            Argument::Word(word) => self.words.push(word)?,
-        }
-        Ok(())
-    }
-
+impl Reading<'_> {
     // accept takes in one more argument.
     fn accept(&mut self, text: &str) -> Result<(), Failure>
         ensures reading { UnderstoodAs (λ _. reading_of self.new) (accepted self.old.command text.now (reading_of self.old)) result }
@@ -160,7 +129,12 @@ impl<'a> Reading<'a> {
         let argument = argument_in(text)
             .filter(|argument| self.command.takes(*argument))
             .ok_or_else(|| unclear(self.heap, text))?;
-        Ok(self.add(argument)?)
+        match argument {
+            Argument::Json => self.json = true,
+            Argument::Setting(setting) => self.awaited = Some(setting),
+            Argument::Word(word) => self.words.push(word)?,
+        }
+        Ok(())
     }
 
     // finish gives the request that the command makes when all its arguments are read.
@@ -204,7 +178,15 @@ pub fn read_arguments(heap: Global, arguments: &[&str]) -> Result<Request, Failu
     let [path, texts @ ..] = rest else {
         return Err(Failure::Missing);
     };
-    let mut reading = Reading::new(heap, command, path);
+    let mut reading = Reading {
+        heap,
+        command,
+        path,
+        words: Vec::new(heap),
+        options: Options::DEFAULTS,
+        json: false,
+        awaited: None,
+    };
     for text in texts {
         reading.accept(text)?;
     }

@@ -16,7 +16,7 @@ returns-in_err-accept c =
     let name = found _ _ command c.in_ok-command.ensures.cases ∙ c.command_named.ensures in
     let whole = known xs rest command (take_rest xs 1) (omega (arith, ltb-true, ltb-false)) name ∙ with_path rest command (omega (arith, ltb-true, ltb-false)) in
     let e = l.invariant.left ∙ one_more l.reading.command texts l.text-index (reading_of l.reading) c.loop-text-test.true in
-    let same = l.invariant.command ∙ c.new-reading.ensures.command in
+    let same = l.invariant.command in
     let p = err_from_is_err_and c.from_residual-in_err-accept.result c.from_residual-in_err-accept.ensures.1 in
     let failed = fails_like _ e (fails_then _ _ _ c.in_err-accept.ensures.reading) in
     rw (p.1, p.2) (fails_like _ whole (fails_then _ _ _ (rw same at failed)))
