@@ -36,18 +36,17 @@ impl fmt::Display for Way {
     }
 }
 
+// BUDGETS are those of small runs, in turn.
+const BUDGETS: [u64; 5] = [1, 2, 3, 7, 64];
+
 impl Way {
     // budget is the budget of the run with this number, where so many steps are left.
     fn budget(self, run: u64, left: u64) -> u64
         ensures { result ≤ left }
     {
-        match (self, run % 5) {
-            (Way::OneRun, _) => left,
-            (_, 0) => left.min(1),
-            (_, 1) => left.min(2),
-            (_, 2) => left.min(3),
-            (_, 3) => left.min(7),
-            _ => left.min(64),
+        match self {
+            Way::OneRun => left,
+            Way::SmallRuns | Way::SmallRunsOverRings => left.min(BUDGETS[(run % 5) as usize]),
         }
     }
 }

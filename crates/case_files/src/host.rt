@@ -24,18 +24,14 @@ impl Host<'_> {
 
     // feed feeds the first words, and tells whether there were any that a console took.
     fn feed(&mut self, console: &mut RingConsole) -> bool {
-        let mut fed = false;
-        for _ in 0..FED {
-            let [word, others @ ..] = self.words else {
-                break;
-            };
-            if console.feed(*word).is_err() {
-                break;
-            }
-            self.words = others;
-            fed = true;
-        }
-        fed
+        let fed = self
+            .words
+            .iter()
+            .take(FED)
+            .take_while(|word| console.feed(**word).is_ok())
+            .count();
+        self.words = &self.words[fed..];
+        fed > 0
     }
 
     // drain drains the oldest bytes of a console, and tells whether there were any.
