@@ -1,4 +1,8 @@
-use object::checked::ObjectFault;
+ghost use Rattle.commands.specs.Report.{summary_of};
+ghost use Rattle.object.specs.Inspection.{object_of};
+ghost use Rattle.std.specs.Prelude.{◌≡◌};
+
+use object::checked::{Checked, ObjectFault};
 use outcomes::Refusal;
 pub use outcomes::Stop;
 
@@ -17,6 +21,18 @@ pub struct Summary {
     pub code_size: usize,
     pub globals: usize,
     pub main: usize,
+}
+
+impl From<&Checked<'_>> for Summary {
+    ghost from_gives = { λ checked summary. summary ≡ summary_of (object_of checked.now) };
+
+    fn from(checked: &Checked<'_>) -> Summary {
+        Summary {
+            code_size: checked.code().len(),
+            globals: checked.globals(),
+            main: checked.main(),
+        }
+    }
 }
 
 // Report is what one run did.

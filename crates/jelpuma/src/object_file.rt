@@ -18,15 +18,6 @@ use std::alloc::Global;
 // MOST_WORDS is one word more than a store may have: a longer store is refused too, so no more is lent.
 const MOST_WORDS: u32 = 1_048_577;
 
-// summary_of tells what the header of an accepted file says.
-fn summary_of(checked: &Checked<'_>) -> Summary {
-    Summary {
-        code_size: checked.code().len(),
-        globals: checked.globals(),
-        main: checked.main(),
-    }
-}
-
 // ObjectFile is the path of a file and the bytes in it, which may or may not make an object.
 #[derive(Drop)]
 pub(crate) struct ObjectFile {
@@ -38,7 +29,7 @@ impl ObjectFile {
     // check tells whether the bytes are an object.
     pub(crate) fn check(&self, heap: Global, json: bool) -> Result<Reply, Failure> {
         let answer = match inspect(&self.bytes) {
-            Ok(checked) => Answer::Accepted(summary_of(&checked)),
+            Ok(checked) => Answer::Accepted(Summary::from(&checked)),
             Err(fault) => Answer::FileRefused(fault),
         };
         Ok(reply_to(heap, self.path.as_str(), json, &answer)?)
@@ -48,7 +39,7 @@ impl ObjectFile {
     pub(crate) fn list(&self, heap: Global) -> Result<Reply, Failure> {
         match inspect(&self.bytes) {
             Ok(checked) => {
-                let text = listing(heap, summary_of(&checked), checked.code())?;
+                let text = listing(heap, Summary::from(&checked), checked.code())?;
                 Ok(Reply::Answered(text.into_bytes()))
             }
             Err(fault) => {
