@@ -3,7 +3,7 @@ ghost use Rattle.std.specs.Prelude.{◌≤◌};
 
 use crate::case::{Case, case_in};
 use crate::host::Host;
-use crate::outcome::{Ending, Outcome};
+use crate::outcome::{Driven, Ending, Outcome};
 use crate::stores::Stores;
 use anyhow::{Context, anyhow};
 use console::{Console, RingConsole, SliceConsole};
@@ -59,14 +59,6 @@ struct Execution<'a> {
     way: Way,
     budget: u64,
     ghost ready: { Ready machine },
-}
-
-// Driven is why an execution stopped, the steps it made, and its stores as they are then.
-#[derive(Drop)]
-struct Driven {
-    stop: Stop,
-    steps: u64,
-    stores: Stores,
 }
 
 impl Execution<'_> {
@@ -134,11 +126,9 @@ impl Execution<'_> {
         let mut console = SliceConsole::new(words, buffer.as_mut_slice());
         let driven = self.drive(&mut console, |_| Ok(false))?;
         Ok(Outcome {
-            stop: driven.stop,
-            steps: driven.steps,
+            driven,
             taken: console.taken(),
             bytes: console.written_bytes().to_vec(heap)?,
-            stores: driven.stores,
         })
     }
 
@@ -155,11 +145,9 @@ impl Execution<'_> {
         let count = console.drain(&mut rest);
         host.bytes.extend_from_slice(&rest[..count])?;
         Ok(Outcome {
-            stop: driven.stop,
-            steps: driven.steps,
+            driven,
             taken: fed.saturating_sub(console.words_waiting()),
             bytes: host.bytes,
-            stores: driven.stores,
         })
     }
 }

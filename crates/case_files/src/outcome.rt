@@ -12,14 +12,20 @@ pub enum Ending {
     Digest,
 }
 
-// Outcome is what an execution leaves behind.
+// Driven is why an execution stopped, the steps it made, and its stores as they are then.
 #[derive(Drop)]
-pub(crate) struct Outcome {
+pub(crate) struct Driven {
     pub(crate) stop: Stop,
     pub(crate) steps: u64,
+    pub(crate) stores: Stores,
+}
+
+// Outcome is what an execution leaves behind: also the words that it took, and the bytes that it wrote.
+#[derive(Drop)]
+pub(crate) struct Outcome {
+    pub(crate) driven: Driven,
     pub(crate) taken: usize,
     pub(crate) bytes: Vec<u8>,
-    pub(crate) stores: Stores,
 }
 
 impl Outcome {
@@ -30,26 +36,23 @@ impl Outcome {
         globals: usize,
         ending: Ending,
     ) -> anyhow::Result<String> {
-        let values = self
-            .stores
-            .data
-            .get(..globals)
-            .context("globals are missing")?;
+        let stores = &self.driven.stores;
+        let values = stores.data.get(..globals).context("globals are missing")?;
         let globals = Listed(values);
         Ok(match ending {
             Ending::Globals => format!(in heap; "{self} {globals}")?,
-            Ending::Digest => format!(in heap; "{self} {globals} {}", self.stores.digest())?,
+            Ending::Digest => format!(in heap; "{self} {globals} {}", stores.digest())?,
         })
     }
 }
 
 impl fmt::Display for Outcome {
     fn fmt<W: fmt::Write>(&self, f: &mut fmt::Formatter<W>) -> fmt::Result {
-        match self.stop {
+        match self.driven.stop {
             Stop::Ended(verdict) => write!(f, "ended {}", verdict.number())?,
             Stop::Paused(pause) => write!(f, "paused {}", pause.number())?,
         }
-        let steps = self.steps;
+        let steps = self.driven.steps;
         let taken = self.taken;
         let bytes = Hex(&self.bytes);
         write!(f, " {steps} {taken} {bytes}")
