@@ -51,6 +51,14 @@ impl Way {
     }
 }
 
+// goes_on tells whether another run may do more than the one that paused.
+fn goes_on(pause: Pause, left: u64, attended: bool) -> bool {
+    match pause {
+        Pause::Budget => left > 0,
+        Pause::Input | Pause::Output => attended,
+    }
+}
+
 // Execution is a machine in its stores, the way to run it, and how many steps it may make.
 #[derive(Drop)]
 struct Execution<'a> {
@@ -101,11 +109,7 @@ impl Execution<'_> {
                 } => {
                     left -= steps;
                     let attended = attend(console)?;
-                    let goes_on = match pause {
-                        Pause::Budget => left > 0,
-                        Pause::Input | Pause::Output => attended,
-                    };
-                    if !goes_on {
+                    if !goes_on(pause, left, attended) {
                         return Ok(Driven {
                             stop: Stop::Paused(pause),
                             steps: budget - left,
