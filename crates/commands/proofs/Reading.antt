@@ -1,18 +1,19 @@
 -- Arguments, one by one.
-use Rattle.std.proofs.Common.{◌≡◌, ℕ, ◌+◌, ◌-◌, ◌<◌, ◌≤◌, List, [], ◌∷◌, length, get_or, take, drop, Some, sym, refl, ap, ◌∙◌, add-one, arith, drop-cons, Bor}
-use Rattle.std.proofs.lemmas.List.{drop_all, drop-map, take_rest}
+use Rattle.std.proofs.Common.{◌≡◌, ℕ, ◌+◌, ◌-◌, ◌<◌, ◌≤◌, List, [], ◌∷◌, length, get_or, take, drop, Some, None, Option, MatchOption, Ok, Result, sym, refl, ap, ◌∙◌, add-one, arith, drop-cons, Bor}
+use Rattle.std.proofs.lemmas.List.{drop-map, take_rest}
 use Rattle.commands.specs.declared.arguments.Command.{Command}
 use Rattle.commands.specs.declared.failure.Failure.{Failure}
 use Rattle.commands.specs.declared.failure.Failure.TheVariants as failure
 use Rattle.commands.specs.Arguments.{Said, accepted, accepted_all, command_named, or_unknown, texts_of, understood, understood_at, understood_behind}
-use Rattle.commands.specs.Understood.{Understood, asks, and_then, FailsAs}
+use Rattle.commands.specs.Understood.{Understood, and_then, FailsAs}
 
 abbrev nowhere : Bor (List ℕ)
 nowhere = record { ref_ptr = (0, 0); now = [] }
 
-pub no_texts : (xs : List (Bor (List ℕ))) → length xs < 1 → texts_of xs ≡ []
-no_texts [] h = refl
-no_texts (x ∷ xs) h = absurd (omega arith)
+-- where a value is found, or else an error is made
+pub found : {A : Type 0} (E : Type 0) (o : Option A) (x : A) → MatchOption o ⊥ (λ y. ◌≡◌ {A = Result A E} (Ok x) (Ok y)) → Some x ≡ o
+found E None x h = absurd h
+found E (Some y) x h = cc
 
 -- a command is known, and what stands behind it decides
 pub known : (xs rest : List (Bor (List ℕ))) (c : Command) → rest ≡ drop 1 xs → 1 ≤ length xs → Some c ≡ command_named (get_or xs 0 nowhere).now → understood (texts_of xs) ≡ understood_at (texts_of rest) c
@@ -38,6 +39,3 @@ fails_like why e h = rw e h
 -- the argument at an index is taken in before those behind it
 pub one_more : (c : Command) (xs : List (Bor (List ℕ))) (i : ℕ) (s : Said) → i < length xs → accepted_all c (drop i (texts_of xs)) s ≡ and_then (accepted c (get_or xs i nowhere).now s) (λ t. accepted_all c (drop (i + 1) (texts_of xs)) t)
 one_more c xs i s h = rw (add-one, drop-map, drop-map, drop-cons xs i nowhere h) refl
-
-pub none_left : (c : Command) (xs : List (Bor (List ℕ))) (i : ℕ) (s : Said) → length xs ≤ i → accepted_all c (drop i (texts_of xs)) s ≡ asks s
-none_left c xs i s h = rw (drop-map, drop_all i xs h) refl

@@ -4,11 +4,18 @@ use Rattle.outcomes.specs.Numbers.{number_of_verdict, number_of_refusal}
 use Rattle.commands.specs.declared.answer.Answer.{Answer}
 use Rattle.commands.specs.declared.answer.Answer.TheVariants.{Accepted, FileRefused, StartRefused, Ran}
 use Rattle.commands.specs.declared.answer.Report.{Report}
-use Rattle.commands.specs.declared.answer.Stop.{Stop}
-use Rattle.commands.specs.declared.answer.Stop.TheVariants.{Ended, Paused}
-use Rattle.commands.specs.Names.{letter_of}
+use Rattle.outcomes.specs.declared.Pause.{Pause}
+use Rattle.outcomes.specs.declared.Pause.TheVariants.{Budget, Input, Output}
+use Rattle.outcomes.specs.declared.Stop.{Stop}
+use Rattle.outcomes.specs.declared.Stop.TheVariants.{Ended, Paused}
 use Rattle.commands.specs.Texts.{texts}
 use Rattle.commands.specs.Words.{listed, hex_of}
+
+-- a letter stands for a pause
+abbrev pub letter_of : Pause → List ℕ
+letter_of Budget = codes "A"
+letter_of Input = codes "B"
+letter_of Output = codes "C"
 
 -- the value of the key `stop`
 abbrev pub stop_name : Stop → List ℕ

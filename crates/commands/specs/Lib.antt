@@ -1,5 +1,4 @@
 pub mod Texts
-pub mod Names
 pub mod Words
 pub mod Json
 pub mod Report

@@ -2,14 +2,19 @@
 use Rattle.std.specs.Prelude.{ℕ, ◌-◌, cond, List, [], ◌∷◌, ◌++◌, length, ℤ, vec_items, codes, decimal, ◌==◌, slice_index}
 use Rattle.outcomes.specs.Numbers.{number_of_verdict, number_of_pause, number_of_refusal}
 use Rattle.outcomes.specs.declared.Refusal.{Refusal}
+use Rattle.object.specs.File.{Object}
 use Rattle.object.specs.declared.checked.ObjectFault.{ObjectFault}
 use Rattle.commands.specs.declared.answer.Report.{Report}
-use Rattle.commands.specs.declared.answer.Stop.{Stop}
-use Rattle.commands.specs.declared.answer.Stop.TheVariants.{Ended, Paused}
+use Rattle.outcomes.specs.declared.Stop.{Stop}
+use Rattle.outcomes.specs.declared.Stop.TheVariants.{Ended, Paused}
 use Rattle.commands.specs.declared.answer.Summary.{Summary}
-use Rattle.commands.specs.Names.{name_of_verdict, name_of_pause, words_for}
+use Rattle.outcomes.specs.Names.{name_of_verdict, name_of_pause, words_for}
 use Rattle.commands.specs.Texts.{texts}
 use Rattle.commands.specs.Words.{each_behind}
+
+-- what the header of an object says
+abbrev pub summary_of : Object → Summary
+summary_of o = record { code_size = length o.code; globals = o.globals; main = o.main }
 
 abbrev pub summary_line : Summary → List ℕ
 summary_line s =

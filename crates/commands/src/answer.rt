@@ -1,5 +1,10 @@
-use object::checked::ObjectFault;
-use outcomes::{Pause, Refusal, Verdict};
+ghost use Rattle.commands.specs.Report.{summary_of};
+ghost use Rattle.object.specs.Inspection.{object_of};
+ghost use Rattle.std.specs.Prelude.{◌≡◌};
+
+use object::checked::{Checked, ObjectFault};
+use outcomes::Refusal;
+pub use outcomes::Stop;
 
 // Answer is what a command has to say about a file or a run.
 #[derive(Drop)]
@@ -18,6 +23,18 @@ pub struct Summary {
     pub main: usize,
 }
 
+impl From<&Checked<'_>> for Summary {
+    ghost from_gives = { λ checked summary. summary ≡ summary_of (object_of checked.now) };
+
+    fn from(checked: &Checked<'_>) -> Summary {
+        Summary {
+            code_size: checked.code().len(),
+            globals: checked.globals(),
+            main: checked.main(),
+        }
+    }
+}
+
 // Report is what one run did.
 #[derive(Drop)]
 pub struct Report {
@@ -26,11 +43,4 @@ pub struct Report {
     pub taken: usize,
     pub bytes: Vec<u8>,
     pub globals: Vec<i32>,
-}
-
-// Stop is how a run came to its end.
-#[derive(Clone, Copy)]
-pub enum Stop {
-    Ended(Verdict),
-    Paused(Pause),
 }

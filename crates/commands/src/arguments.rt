@@ -1,11 +1,11 @@
-ghost use Rattle.commands.specs.Arguments.{accepted, accepted_all, added, argument_in, asked_of, command_named, finished, option_named, reading_of, set, takes, texts_of, understood, understood_behind};
+ghost use Rattle.commands.specs.Arguments.{accepted, argument_in, asked_of, command_named, finished, option_named, reading_of, set, takes, texts_of, understood};
 ghost use Rattle.commands.specs.Understood.{UnderstoodAs, Unclear};
-ghost use Rattle.std.specs.Prelude.{◌≡◌, OnOk};
+ghost use Rattle.std.specs.Prelude.{◌≡◌};
 
 use crate::failure::Failure;
 use crate::numbers::{number_in, word_in};
 use crate::request::{Options, Request};
-use std::alloc::{AllocError, Global};
+use std::alloc::Global;
 
 // Command is what the first argument names.
 #[derive(Clone, Copy)]
@@ -33,9 +33,12 @@ enum Argument {
     Word(i32),
 }
 
-// Reading is what the arguments behind the path have said so far.
+// Reading is a command, the path of its file, and what the arguments behind the path have said so far.
 #[derive(Drop)]
-struct Reading {
+struct Reading<'a> {
+    heap: Global,
+    command: Command,
+    path: &'a str,
     words: Vec<i32>,
     options: Options,
     json: bool,
@@ -73,13 +76,7 @@ fn option_named(name: &str) -> Option<Argument>
 fn argument_in(text: &str) -> Option<Argument>
     ensures { result ≡ argument_in text.now }
 {
-    if let Some(option) = option_named(text) {
-        return Some(option);
-    }
-    match word_in(text) {
-        Some(word) => Some(Argument::Word(word)),
-        None => None,
-    }
+    option_named(text).or_else(|| word_in(text).map(Argument::Word))
 }
 
 impl Command {
@@ -113,17 +110,25 @@ impl Options {
 fn unclear(heap: Global, text: &str) -> Failure
     ensures { Unclear text.now result }
 {
-    match String::from_str(heap, text) {
-        Ok(argument) => Failure::Unclear(argument),
-        Err(_) => Failure::NoMemory,
-    }
+    String::from_str(heap, text).map_or(Failure::NoMemory, Failure::Unclear)
 }
 
-impl Reading {
-    // add takes in what an argument says.
-    fn add(&mut self, argument: Argument) -> Result<(), AllocError>
-        ensures { OnOk result (reading_of self.new ≡ added argument (reading_of self.old)) }
+impl Reading<'_> {
+    // accept takes in one more argument.
+    fn accept(&mut self, text: &str) -> Result<(), Failure>
+        ensures reading { UnderstoodAs (λ _. reading_of self.new) (accepted self.old.command text.now (reading_of self.old)) result }
+        ensures command { self.new.command ≡ self.old.command }
+        ensures path { self.new.path.now ≡ self.old.path.now }
     {
+        if let Some(setting) = self.awaited {
+            let n = number_in(text).ok_or_else(|| unclear(self.heap, text))?;
+            self.options.set(setting, n);
+            self.awaited = None;
+            return Ok(());
+        }
+        let argument = argument_in(text)
+            .filter(|argument| self.command.takes(*argument))
+            .ok_or_else(|| unclear(self.heap, text))?;
         match argument {
             Argument::Json => self.json = true,
             Argument::Setting(setting) => self.awaited = Some(setting),
@@ -132,29 +137,14 @@ impl Reading {
         Ok(())
     }
 
-    // accept takes in one more argument.
-    fn accept(&mut self, heap: Global, command: Command, text: &str) -> Result<(), Failure>
-        ensures { UnderstoodAs (λ _. reading_of self.new) (accepted command text.now (reading_of self.old)) result }
-    {
-        if let Some(setting) = self.awaited {
-            let Some(n) = number_in(text) else {
-                return Err(unclear(heap, text));
-            };
-            self.options.set(setting, n);
-            self.awaited = None;
-            return Ok(());
-        }
-        match argument_in(text) {
-            Some(argument) if command.takes(argument) => Ok(self.add(argument)?),
-            _ => Err(unclear(heap, text)),
-        }
-    }
-
-    // finish gives the request that a command makes when all its arguments are read.
-    fn finish(self, heap: Global, command: Command, path: &str) -> Result<Request, Failure>
-        ensures { UnderstoodAs asked_of (finished command path.now (reading_of self)) result }
+    // finish gives the request that the command makes when all its arguments are read.
+    fn finish(self) -> Result<Request, Failure>
+        ensures { UnderstoodAs asked_of (finished self.entry.command self.entry.path.now (reading_of self.entry)) result }
     {
         let Reading {
+            heap,
+            command,
+            path,
             words,
             options,
             json,
@@ -177,27 +167,6 @@ impl Reading {
     }
 }
 
-// read_behind reads the arguments behind a command and the path of a file.
-fn read_behind(
-    heap: Global,
-    command: Command,
-    path: &str,
-    texts: &[&str],
-) -> Result<Request, Failure>
-    ensures { UnderstoodAs asked_of (understood_behind command path.now (texts_of texts.now)) result }
-{
-    let mut reading = Reading {
-        words: Vec::new(heap),
-        options: Options::DEFAULTS,
-        json: false,
-        awaited: None,
-    };
-    for text in texts {
-        reading.accept(heap, command, text)?;
-    }
-    reading.finish(heap, command, path)
-}
-
 // read_arguments gives the request that arguments make, or tells why they make none.
 pub fn read_arguments(heap: Global, arguments: &[&str]) -> Result<Request, Failure>
     ensures { UnderstoodAs asked_of (understood (texts_of arguments.now)) result }
@@ -205,11 +174,21 @@ pub fn read_arguments(heap: Global, arguments: &[&str]) -> Result<Request, Failu
     let [name, rest @ ..] = arguments else {
         return Ok(Request::Sample);
     };
-    let Some(command) = command_named(name) else {
-        return Err(unclear(heap, name));
-    };
+    let command = command_named(name).ok_or_else(|| unclear(heap, name))?;
     let [path, texts @ ..] = rest else {
         return Err(Failure::Missing);
     };
-    read_behind(heap, command, path, texts)
+    let mut reading = Reading {
+        heap,
+        command,
+        path,
+        words: Vec::new(heap),
+        options: Options::DEFAULTS,
+        json: false,
+        awaited: None,
+    };
+    for text in texts {
+        reading.accept(text)?;
+    }
+    reading.finish()
 }

@@ -44,14 +44,13 @@ impl fmt::Display for Failure {
 
     fn fmt<W: fmt::Write>(&self, f: &mut fmt::Formatter<W>) -> fmt::Result {
         match self {
-            Failure::Unreadable(path) => write!(f, "jelpuma: cannot read {path}\n"),
-            Failure::Unclear(argument) => write!(
-                f,
-                "jelpuma: cannot understand {argument}\n{USAGE}"
-            ),
+            Failure::Unreadable(path) => writeln!(f, "jelpuma: cannot read {path}"),
+            Failure::Unclear(argument) => {
+                write!(f, "jelpuma: cannot understand {argument}\n{USAGE}")
+            }
             Failure::NotText => write!(f, "jelpuma: an argument is no UTF-8 text\n{USAGE}"),
             Failure::Missing => write!(f, "jelpuma: an argument is missing\n{USAGE}"),
-            Failure::NoMemory => write!(f, "jelpuma: not enough memory\n"),
+            Failure::NoMemory => writeln!(f, "jelpuma: not enough memory"),
         }
     }
 }

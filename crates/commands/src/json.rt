@@ -1,11 +1,13 @@
 ghost use Rattle.commands.specs.Json.{json_of, report_json, stop_name, verdict_key};
-ghost use Rattle.std.specs.Prelude.{◌≡◌, IfOk, string_bytes};
+ghost use Rattle.commands.specs.Words.{hex_of};
+ghost use Rattle.std.specs.Prelude.{◌≡◌, IfOk, Some, string_bytes};
 
-use crate::answer::{Answer, Report, Stop};
-use crate::hex::hex;
-use crate::names::pause_letter;
-use crate::word_lists::separated;
+use crate::answer::{Answer, Report, Stop, Summary};
+use crate::word_lists::Listed;
+use object::checked::ObjectFault;
+use outcomes::{Numbered, Pause};
 use std::alloc::{AllocError, Global};
+use std::fmt;
 
 // stop_name is the value of the key `stop`.
 fn stop_name(stop: Stop) -> &'static str
@@ -13,33 +15,44 @@ fn stop_name(stop: Stop) -> &'static str
 {
     match stop {
         Stop::Ended(_) => "verdict",
-        Stop::Paused(pause) => pause_letter(pause),
+        Stop::Paused(Pause::Budget) => "A",
+        Stop::Paused(Pause::Input) => "B",
+        Stop::Paused(Pause::Output) => "C",
     }
 }
 
-// verdict_key is the key `verdict` with its value, if there is a verdict.
-fn verdict_key(heap: Global, stop: Stop) -> Result<String, AllocError>
-    ensures { IfOk result (λ text. string_bytes text ≡ verdict_key stop) }
-{
-    match stop {
-        Stop::Ended(verdict) => {
-            let number = verdict.number();
-            format!(in heap; ",\"verdict\":{number}")
+// VerdictKey shows the key `verdict` with its value, if there is a verdict.
+#[derive(Clone, Copy)]
+struct VerdictKey(Stop);
+
+impl fmt::Display for VerdictKey {
+    ghost output = { λ k. Some (verdict_key k.0) };
+
+    fn fmt<W: fmt::Write>(&self, f: &mut fmt::Formatter<W>) -> fmt::Result {
+        match self.0 {
+            Stop::Ended(verdict) => write!(f, ",\"verdict\":{}", verdict.number()),
+            Stop::Paused(_) => Ok(()),
         }
-        Stop::Paused(_) => Ok(String::new(heap)),
     }
+}
+
+// hex_text is two digits for each byte.
+fn hex_text(heap: Global, bytes: &[u8]) -> Result<String, AllocError>
+    ensures { IfOk result (λ text. string_bytes text ≡ hex_of bytes.now) }
+{
+    hex::encode(heap, bytes)
 }
 
 // report_json is what a run did, as a JSON object.
 fn report_json(heap: Global, report: &Report) -> Result<String, AllocError>
     ensures { IfOk result (λ text. string_bytes text ≡ report_json report.now) }
 {
-    let bytes = hex(heap, &report.bytes)?;
-    let globals = separated(heap, &report.globals)?;
+    let bytes = hex_text(heap, &report.bytes)?;
+    let globals = Listed(&report.globals);
     let steps = report.steps;
     let stop = stop_name(report.stop);
     let taken = report.taken;
-    let verdict = verdict_key(heap, report.stop)?;
+    let verdict = VerdictKey(report.stop);
     format!(in heap;
         "{{\"bytes\":\"{bytes}\",\"globals\":[{globals}],\"ok\":true,\"steps\":{steps},\"stop\":\"{stop}\",\"taken\":{taken}{verdict}}}\n"
     )
@@ -51,22 +64,23 @@ pub(crate) fn json_of(heap: Global, answer: &Answer) -> Result<String, AllocErro
 {
     match answer {
         Answer::Accepted(summary) => {
-            let size = summary.code_size;
-            let globals = summary.globals;
-            let main = summary.main;
+            let Summary {
+                code_size,
+                globals,
+                main,
+            } = *summary;
             format!(in heap;
-                "{{\"codesize\":{size},\"globals\":{globals},\"mainpc\":{main},\"ok\":true}}\n"
+                "{{\"codesize\":{code_size},\"globals\":{globals},\"mainpc\":{main},\"ok\":true}}\n"
             )
         }
-        Answer::FileRefused(fault) => {
-            let offset = fault.offset;
-            let number = fault.refusal.number();
-            format!(in heap; "{{\"at\":{offset},\"number\":{number},\"ok\":false}}\n")
-        }
-        Answer::StartRefused(refusal) => {
-            let number = refusal.number();
-            format!(in heap; "{{\"number\":{number},\"ok\":false}}\n")
-        }
+        Answer::FileRefused(ObjectFault { refusal, offset }) => format!(in heap;
+            "{{\"at\":{offset},\"number\":{},\"ok\":false}}\n",
+            refusal.number()
+        ),
+        Answer::StartRefused(refusal) => format!(in heap;
+            "{{\"number\":{},\"ok\":false}}\n",
+            refusal.number()
+        ),
         Answer::Ran(report) => report_json(heap, report),
     }
 }

@@ -5,19 +5,17 @@
 // request.rt: what a command line can ask for. arguments.rt: from arguments to a request.
 // numbers.rt: numbers in arguments. failure.rt: why a command gives no answer.
 // answer.rt: what a command has to say. reply.rt: what is printed for it, and where.
-// json.rt: answers as JSON. report.rt: answers for a reader. names.rt: names of verdicts, pauses and refusals.
-// word_lists.rt: lists of words as text. hex.rt: bytes as text. listing.rt: code as text. mnemonics.rt: the names of opcodes.
+// json.rt: answers as JSON. report.rt: answers for a reader. word_lists.rt: lists of words as text.
+// listing.rt: code as text. mnemonics.rt: the names of opcodes.
 // docs/command-line.md: the rules.
 #![tactic(auto)]
 
 pub mod answer;
 pub mod arguments;
 pub mod failure;
-mod hex;
 mod json;
 pub mod listing;
 mod mnemonics;
-mod names;
 mod numbers;
 pub mod reply;
 mod report;

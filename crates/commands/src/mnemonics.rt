@@ -67,9 +67,5 @@ const MNEMONICS: [&str; 58] = [
 pub(crate) fn mnemonic(opcode: u8) -> &'static str
     ensures { result.now ≡ mnemonic_of opcode }
 {
-    if opcode < 58 {
-        MNEMONICS[opcode as usize]
-    } else {
-        ""
-    }
+    MNEMONICS.get(opcode as usize).copied().unwrap_or("")
 }

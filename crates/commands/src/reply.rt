@@ -3,11 +3,12 @@ ghost use Rattle.std.specs.Prelude.{◌≡◌, IfOk};
 
 use crate::answer::Answer;
 use crate::json::json_of;
-use crate::report::{fault_line, refusal_line, report_output, summary_line};
+use crate::report::{fault_line, refusal_line, report_output};
 use std::alloc::{AllocError, Global};
 
 // Reply is what a command prints. An answer goes to the standard output and ends with status 0,
 // a refusal goes to the standard error output and ends with status 1.
+// It is no Result: a refusal is an answer that was given, and the Result of reply_to is about memory.
 #[derive(Drop)]
 pub enum Reply {
     Answered(Vec<u8>),
@@ -22,9 +23,7 @@ pub fn reply_to(heap: Global, path: &str, json: bool, answer: &Answer) -> Result
         return Ok(Reply::Answered(json_of(heap, answer)?.into_bytes()));
     }
     match answer {
-        Answer::Accepted(summary) => Ok(Reply::Answered(summary_line(
-            heap, *summary,
-        )?.into_bytes())),
+        Answer::Accepted(summary) => Ok(Reply::Answered(summary.to_string(heap)?.into_bytes())),
         Answer::FileRefused(fault) => Ok(Reply::Refused(fault_line(
             heap, path, *fault,
         )?.into_bytes())),

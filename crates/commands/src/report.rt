@@ -1,39 +1,40 @@
 ghost use Rattle.commands.specs.Report.{fault_line, globals_text, line_end, output, refusal_line, report_lines, stop_line, summary_line};
-ghost use Rattle.std.specs.Prelude.{◌≡◌, IfOk, string_bytes};
+ghost use Rattle.std.specs.Prelude.{◌≡◌, IfOk, Some, string_bytes};
 
 use crate::answer::{Report, Stop, Summary};
-use crate::names::{pause_name, refusal_words, verdict_name};
-use crate::word_lists::each_behind;
+use crate::word_lists::EachBehind;
 use object::checked::ObjectFault;
-use outcomes::Refusal;
+use outcomes::{Numbered, Refusal};
 use std::alloc::{AllocError, Global};
+use std::fmt;
 
-// stop_line tells how a run came to its end.
-fn stop_line(heap: Global, stop: Stop) -> Result<String, AllocError>
-    ensures { IfOk result (λ text. string_bytes text ≡ stop_line stop) }
-{
-    match stop {
-        Stop::Ended(verdict) => {
-            let number = verdict.number();
-            let name = verdict_name(verdict);
-            format!(in heap; "verdict {number}: {name}\n")
-        }
-        Stop::Paused(pause) => {
-            let number = pause.number();
-            let name = pause_name(pause);
-            format!(in heap; "pause {number}: {name}\n")
+// StopLine shows how a run came to its end.
+#[derive(Clone, Copy)]
+struct StopLine(Stop);
+
+impl fmt::Display for StopLine {
+    ghost output = { λ l. Some (stop_line l.0) };
+
+    fn fmt<W: fmt::Write>(&self, f: &mut fmt::Formatter<W>) -> fmt::Result {
+        match self.0 {
+            Stop::Ended(verdict) => writeln!(f, "verdict {}: {verdict}", verdict.number()),
+            Stop::Paused(pause) => writeln!(f, "pause {}: {pause}", pause.number()),
         }
     }
 }
 
-// globals_text is the values of the globals, a blank in front of each.
-fn globals_text(heap: Global, globals: &[i32]) -> Result<String, AllocError>
-    ensures { IfOk result (λ text. string_bytes text ≡ globals_text globals.now) }
-{
-    if globals.is_empty() {
-        String::from_str(heap, " none")
-    } else {
-        each_behind(heap, " ", globals)
+// GlobalsText shows the values of the globals, a blank in front of each.
+#[derive(Clone, Copy)]
+struct GlobalsText<'a>(&'a [i32]);
+
+impl fmt::Display for GlobalsText<'_> {
+    ghost output = { λ g. Some (globals_text g.0.now) };
+
+    fn fmt<W: fmt::Write>(&self, f: &mut fmt::Formatter<W>) -> fmt::Result {
+        match self.0 {
+            [] => f.write_str(" none"),
+            words => EachBehind { mark: " ", words }.fmt(f),
+        }
     }
 }
 
@@ -41,11 +42,11 @@ fn globals_text(heap: Global, globals: &[i32]) -> Result<String, AllocError>
 fn report_lines(heap: Global, report: &Report) -> Result<String, AllocError>
     ensures { IfOk result (λ text. string_bytes text ≡ report_lines report.now) }
 {
-    let stop = stop_line(heap, report.stop)?;
+    let stop = StopLine(report.stop);
     let steps = report.steps;
     let taken = report.taken;
     let written = report.bytes.len();
-    let globals = globals_text(heap, &report.globals)?;
+    let globals = GlobalsText(&report.globals);
     format!(in heap;
         "{stop}steps: {steps}\nwords taken: {taken}\nbytes written: {written}\nglobals:{globals}\n"
     )
@@ -55,10 +56,9 @@ fn report_lines(heap: Global, report: &Report) -> Result<String, AllocError>
 fn line_end(bytes: &[u8]) -> &'static [u8]
     ensures { result.now ≡ line_end bytes.now }
 {
-    if bytes.is_empty() || bytes[bytes.len() - 1] == b'\n' {
-        b""
-    } else {
-        b"\n"
+    match bytes {
+        [] | [.., b'\n'] => b"",
+        _ => b"\n",
     }
 }
 
@@ -73,33 +73,36 @@ pub(crate) fn report_output(heap: Global, report: &Report) -> Result<Vec<u8>, Al
     Ok(bytes)
 }
 
-// summary_line tells what the header of an accepted file says.
-pub(crate) fn summary_line(heap: Global, summary: Summary) -> Result<String, AllocError>
-    ensures { IfOk result (λ text. string_bytes text ≡ summary_line summary) }
-{
-    let Summary {
-        code_size,
-        globals,
-        main,
-    } = summary;
-    format!(in heap; "code size {code_size}, globals {globals}, main address {main}\n")
+impl fmt::Display for Summary {
+    ghost output = { λ s. Some (summary_line s) };
+
+    fn fmt<W: fmt::Write>(&self, f: &mut fmt::Formatter<W>) -> fmt::Result {
+        let Summary {
+            code_size,
+            globals,
+            main,
+        } = self;
+        writeln!(
+            f,
+            "code size {code_size}, globals {globals}, main address {main}"
+        )
+    }
 }
 
 // fault_line tells why a file is refused, and where.
 pub(crate) fn fault_line(heap: Global, path: &str, fault: ObjectFault) -> Result<String, AllocError>
     ensures { IfOk result (λ text. string_bytes text ≡ fault_line path.now fault) }
 {
-    let offset = fault.offset;
-    let number = fault.refusal.number();
-    let words = refusal_words(fault.refusal);
-    format!(in heap; "{path}:{offset}: refusal {number}: {words}\n")
+    let ObjectFault { refusal, offset } = fault;
+    format!(in heap;
+        "{path}:{offset}: refusal {}: {refusal}\n",
+        refusal.number()
+    )
 }
 
 // refusal_line tells why something other than the file is refused.
 pub(crate) fn refusal_line(heap: Global, path: &str, refusal: Refusal) -> Result<String, AllocError>
     ensures { IfOk result (λ text. string_bytes text ≡ refusal_line path.now refusal) }
 {
-    let number = refusal.number();
-    let words = refusal_words(refusal);
-    format!(in heap; "{path}: refusal {number}: {words}\n")
+    format!(in heap; "{path}: refusal {}: {refusal}\n", refusal.number())
 }

@@ -1,4 +1,5 @@
 // Request is what a command line asks for.
+// json is whether `--json` is given: an enum of two names would say no more than the option does.
 #[derive(Drop)]
 pub enum Request {
     Sample,

@@ -1,29 +1,41 @@
 ghost use Rattle.commands.specs.Words.{each_behind, listed};
-ghost use Rattle.std.specs.Prelude.{◌≡◌, IfOk, string_bytes};
+ghost use Rattle.std.specs.Prelude.{Some};
 
-use std::alloc::{AllocError, Global};
+use std::fmt;
 
-// each_behind writes each word behind a mark.
-pub(crate) fn each_behind(heap: Global, mark: &str, words: &[i32]) -> Result<String, AllocError>
-    ensures { IfOk result (λ text. string_bytes text ≡ each_behind mark.now words.now) }
-{
-    let mut text = String::new(heap);
-    for word in words {
-        text.push_str(mark)?;
-        text.push_str(word.to_string(heap)?.as_str())?;
-    }
-    Ok(text)
+// EachBehind shows each word behind a mark.
+#[derive(Clone, Copy)]
+pub(crate) struct EachBehind<'a> {
+    pub(crate) mark: &'a str,
+    pub(crate) words: &'a [i32],
 }
 
-// separated writes the words with a comma between any two.
-pub(crate) fn separated(heap: Global, words: &[i32]) -> Result<String, AllocError>
-    ensures { IfOk result (λ text. string_bytes text ≡ listed words.now) }
-{
-    match words {
-        [] => Ok(String::new(heap)),
-        [first, others @ ..] => {
-            let others = each_behind(heap, ",", others)?;
-            format!(in heap; "{first}{others}")
+impl fmt::Display for EachBehind<'_> {
+    ghost output = { λ e. Some (each_behind e.mark.now e.words.now) };
+
+    fn fmt<W: fmt::Write>(&self, f: &mut fmt::Formatter<W>) -> fmt::Result {
+        let mark = self.mark;
+        for word in self.words {
+            write!(f, "{mark}{word}")?;
+        }
+        Ok(())
+    }
+}
+
+// Listed shows words with a comma between any two.
+#[derive(Clone, Copy)]
+pub(crate) struct Listed<'a>(pub(crate) &'a [i32]);
+
+impl fmt::Display for Listed<'_> {
+    ghost output = { λ l. Some (listed l.0.now) };
+
+    fn fmt<W: fmt::Write>(&self, f: &mut fmt::Formatter<W>) -> fmt::Result {
+        match self.0 {
+            [] => Ok(()),
+            [first, words @ ..] => {
+                let others = EachBehind { mark: ",", words };
+                write!(f, "{first}{others}")
+            }
         }
     }
 }

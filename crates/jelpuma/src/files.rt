@@ -1,3 +1,4 @@
+use crate::object_file::ObjectFile;
 use commands::failure::Failure;
 use std::fs::File;
 use std::io;
@@ -7,12 +8,12 @@ use std::io::Read;
 const MOST: u64 = 14 + 8_192 + 1;
 
 // read_file gives the first bytes of a file, as many as an object file can have and one more.
-pub(crate) fn read_file(rt: &HostRuntime, path: &str) -> Result<Vec<u8>, Failure> {
+pub(crate) fn read_file(rt: &HostRuntime, path: String) -> Result<ObjectFile, Failure> {
     let mut bytes = Vec::new(rt.alloc());
-    match read_into(rt, path, &mut bytes) {
-        Ok(_) => Ok(bytes),
+    match read_into(rt, path.as_str(), &mut bytes) {
+        Ok(_) => Ok(ObjectFile { path, bytes }),
         Err(error) if error.kind() == io::ErrorKind::OutOfMemory => Err(Failure::NoMemory),
-        Err(_) => Err(Failure::Unreadable(String::from_str(rt.alloc(), path)?)),
+        Err(_) => Err(Failure::Unreadable(path)),
     }
 }
 

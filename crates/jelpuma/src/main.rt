@@ -2,7 +2,7 @@
 // Promises nothing beyond what the layers below promise: what is asked for, what is answered and how it is worded is theirs.
 // Does not continue a run, and does not read the standard input.
 //
-// main.rt: arguments in, a reply out. files.rt: object files. object.rt: what is done with one. sample.rt: the built-in sample.
+// main.rt: arguments in, a reply out. files.rt: object files. object_file.rt: what is done with one. sample.rt: the built-in sample.
 #![tactic(auto)]
 
 mod files;
@@ -14,8 +14,7 @@ use commands::failure::Failure;
 use commands::reply::Reply;
 use commands::request::{Options, Request};
 use files::read_file;
-use object_file::{check_object, list_object, run_object};
-use sample::SAMPLE;
+use sample::sample;
 use std::alloc::Global;
 use std::io::Write;
 use std::process::ExitCode;
@@ -23,25 +22,16 @@ use std::{env, io};
 
 // arguments gives the arguments behind the program's own name.
 fn arguments(rt: &HostRuntime) -> Result<Vec<String>, Failure> {
-    let mut texts = Vec::new(rt.alloc());
     match env::args(rt) {
-        Ok(all) => {
-            for text in all.skip(1) {
-                texts.push(text)?;
-            }
-            Ok(texts)
-        }
+        Ok(all) => Ok(all.skip(1).collect(rt.alloc())?),
         Err(error) if error.kind() == io::ErrorKind::OutOfMemory => Err(Failure::NoMemory),
         Err(_) => Err(Failure::NotText),
     }
 }
 
 // requested gives what the arguments ask for.
-fn requested(heap: Global, arguments: &Vec<String>) -> Result<Request, Failure> {
-    let mut texts = Vec::new(heap);
-    for argument in arguments {
-        texts.push(argument.as_str())?;
-    }
+fn requested(heap: Global, arguments: &[String]) -> Result<Request, Failure> {
+    let texts: Vec<&str> = arguments.iter().map(String::as_str).collect(heap)?;
     read_arguments(heap, &texts)
 }
 
@@ -49,24 +39,15 @@ fn requested(heap: Global, arguments: &Vec<String>) -> Result<Request, Failure> 
 fn reply(rt: &HostRuntime) -> Result<Reply, Failure> {
     let heap = rt.alloc();
     match requested(heap, &arguments(rt)?)? {
-        Request::Sample => run_object(heap, "the sample", SAMPLE, &[], Options::DEFAULTS, false),
-        Request::Check { path, json } => {
-            let bytes = read_file(rt, path.as_str())?;
-            check_object(heap, path.as_str(), &bytes, json)
-        }
-        Request::List { path } => {
-            let bytes = read_file(rt, path.as_str())?;
-            list_object(heap, path.as_str(), &bytes)
-        }
+        Request::Sample => sample(heap)?.run(heap, &[], Options::DEFAULTS, false),
+        Request::Check { path, json } => read_file(rt, path)?.check(heap, json),
+        Request::List { path } => read_file(rt, path)?.list(heap),
         Request::Run {
             path,
             words,
             options,
             json,
-        } => {
-            let bytes = read_file(rt, path.as_str())?;
-            run_object(heap, path.as_str(), &bytes, &words, options, json)
-        }
+        } => read_file(rt, path)?.run(heap, &words, options, json),
     }
 }
 

@@ -18,37 +18,50 @@ use std::alloc::Global;
 // MOST_WORDS is one word more than a store may have: a longer store is refused too, so no more is lent.
 const MOST_WORDS: u32 = 1_048_577;
 
-// summary_of tells what the header of an accepted file says.
-fn summary_of(checked: &Checked<'_>) -> Summary {
-    Summary {
-        code_size: checked.code().len(),
-        globals: checked.globals(),
-        main: checked.main(),
+// ObjectFile is the path of a file and the bytes in it, which may or may not make an object.
+#[derive(Drop)]
+pub(crate) struct ObjectFile {
+    pub(crate) path: String,
+    pub(crate) bytes: Vec<u8>,
+}
+
+impl ObjectFile {
+    // check tells whether the bytes are an object.
+    pub(crate) fn check(&self, heap: Global, json: bool) -> Result<Reply, Failure> {
+        let answer = match inspect(&self.bytes) {
+            Ok(checked) => Answer::Accepted(Summary::from(&checked)),
+            Err(fault) => Answer::FileRefused(fault),
+        };
+        Ok(reply_to(heap, self.path.as_str(), json, &answer)?)
     }
-}
 
-// check_object tells whether bytes are an object file.
-pub(crate) fn check_object(
-    heap: Global,
-    path: &str,
-    bytes: &[u8],
-    json: bool,
-) -> Result<Reply, Failure> {
-    let answer = match inspect(bytes) {
-        Ok(checked) => Answer::Accepted(summary_of(&checked)),
-        Err(fault) => Answer::FileRefused(fault),
-    };
-    Ok(reply_to(heap, path, json, &answer)?)
-}
-
-// list_object lists the code of an object file.
-pub(crate) fn list_object(heap: Global, path: &str, bytes: &[u8]) -> Result<Reply, Failure> {
-    match inspect(bytes) {
-        Ok(checked) => {
-            let text = listing(heap, summary_of(&checked), checked.code())?;
-            Ok(Reply::Answered(text.into_bytes()))
+    // list lists the code of the object.
+    pub(crate) fn list(&self, heap: Global) -> Result<Reply, Failure> {
+        match inspect(&self.bytes) {
+            Ok(checked) => {
+                let text = listing(heap, Summary::from(&checked), checked.code())?;
+                Ok(Reply::Answered(text.into_bytes()))
+            }
+            Err(fault) => {
+                let answer = Answer::FileRefused(fault);
+                Ok(reply_to(heap, self.path.as_str(), false, &answer)?)
+            }
         }
-        Err(fault) => Ok(reply_to(heap, path, false, &Answer::FileRefused(fault))?),
+    }
+
+    // run makes one run of the object.
+    pub(crate) fn run(
+        &self,
+        heap: Global,
+        words: &[i32],
+        options: Options,
+        json: bool,
+    ) -> Result<Reply, Failure> {
+        let answer = match inspect(&self.bytes) {
+            Ok(checked) => run_checked(heap, checked, words, options)?,
+            Err(fault) => Answer::FileRefused(fault),
+        };
+        Ok(reply_to(heap, self.path.as_str(), json, &answer)?)
     }
 }
 
@@ -150,20 +163,4 @@ fn run_checked(
         }
         Err(refusal) => Ok(Answer::StartRefused(refusal)),
     }
-}
-
-// run_object makes one run of an object file.
-pub(crate) fn run_object(
-    heap: Global,
-    path: &str,
-    bytes: &[u8],
-    words: &[i32],
-    options: Options,
-    json: bool,
-) -> Result<Reply, Failure> {
-    let answer = match inspect(bytes) {
-        Ok(checked) => run_checked(heap, checked, words, options)?,
-        Err(fault) => Answer::FileRefused(fault),
-    };
-    Ok(reply_to(heap, path, json, &answer)?)
 }

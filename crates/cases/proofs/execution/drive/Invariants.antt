@@ -1,6 +1,0 @@
-use Rattle.std.proofs.Common.{◌≤◌}
-use Rattle.machine.specs.Machines.{Ready}
-use Rattle.cases.proofs.execution.drive.Given as goal
-
-abbrev pub invariant-loop-run : goal.invariant-loop-run
-invariant-loop-run g l = Ready l.machine × (l.left ≤ l.budget)
