@@ -1,4 +1,3 @@
-ghost use Rattle.machine.specs.Machines.{Ready};
 ghost use Rattle.std.specs.Prelude.{◌≤◌};
 
 use crate::case::{Case, case_in};
@@ -66,7 +65,6 @@ struct Execution<'a> {
     stores: Stores,
     way: Way,
     budget: u64,
-    ghost ready: { Ready machine },
 }
 
 impl Execution<'_> {
@@ -86,15 +84,7 @@ impl Execution<'_> {
         } = self;
         let mut left = budget;
         for run in 0..MOST_RUNS {
-            match advance(
-                machine,
-                way.budget(run, left),
-                stores.data.as_mut_slice(),
-                stores.heap.as_mut_slice(),
-                stores.call.as_mut_slice(),
-                stores.operand.as_mut_slice(),
-                console,
-            ) {
+            match advance(machine, way.budget(run, left), &mut stores.lent(), console) {
                 Progress::Ended { verdict, steps } => {
                     return Ok(Driven {
                         stop: Stop::Ended(verdict),
@@ -172,13 +162,7 @@ pub(crate) fn executed(
     } = case_in(heap, given)?;
     let checked = inspect(&object).ok().context("an object is refused")?;
     let globals = checked.globals();
-    let machine = match start(
-        checked,
-        stores.data.as_mut_slice(),
-        stores.heap.as_mut_slice(),
-        stores.call.as_mut_slice(),
-        stores.operand.as_mut_slice(),
-    ) {
+    let machine = match start(checked, &mut stores.lent()) {
         Ok(machine) => machine,
         Err(refusal) => return Ok(format!(in heap; "refused {}", refusal.number())?),
     };

@@ -16,6 +16,16 @@ fn digested(before: i32, words: &[i32]) -> i32 {
 }
 
 impl Stores {
+    // lent is the four stores, as a machine is lent them.
+    pub(crate) fn lent(&mut self) -> machine::Stores<'_> {
+        machine::Stores {
+            data: self.data.as_mut_slice(),
+            heap: self.heap.as_mut_slice(),
+            call: self.call.as_mut_slice(),
+            operand: self.operand.as_mut_slice(),
+        }
+    }
+
     // digest is a number that any other word in a store would change.
     pub(crate) fn digest(&self) -> i32 {
         let data = digested(0, &self.data);

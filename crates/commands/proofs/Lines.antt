@@ -3,7 +3,7 @@ use Rattle.std.proofs.Common.{◌≡◌, ℕ, zero, suc, ◌+◌, ◌≤◌, Lis
 use Rattle.std.proofs.lemmas.List.{drop_all}
 use Rattle.instructions.specs.Decode.{decoded}
 use Rattle.instructions.specs.declared.Decoded.{Decoded}
-use Rattle.object.proofs.Sizes.{decoded_size, nothing}
+use Rattle.object.proofs.Sizes.{decoded_size}
 use Rattle.commands.specs.declared.answer.Summary.{Summary}
 use Rattle.commands.specs.Listing.{line_of, line_then, lines, listing_of}
 use Rattle.commands.specs.Report.{summary_line}
@@ -20,7 +20,7 @@ left_all s code = record { most = length code; enough = omega arith; inside = om
 
 lines_more : (most at : ℕ) (code : List ℕ) (d : Decoded) → length code ≤ most + at → decoded (drop at code) ≡ Some d → (n : ℕ) × (most ≡ suc n) × (lines most at code ≡ line_of at (get_or code at 0) d ++ lines n (at + d.size) code)
 unfolding lines
-lines_more zero at code d h e = nothing d (sym (ap decoded (drop_all at code (omega arith))) ∙ e)
+lines_more zero at code d h e = let z : None ≡ Some d = sym (ap decoded (drop_all at code (omega arith))) ∙ e in absurd cc
 lines_more (suc n) at code d h e = (n, refl, ap (λ o. line_then at code o (λ x. lines n (at + x.size) code)) e)
 
 pub left_more : (s : Summary) (code text more : List ℕ) (at : ℕ) (d : Decoded) → Left s code text at → decoded (drop at code) ≡ Some d → more ≡ text ++ line_of at (get_or code at 0) d → Left s code more (at + d.size)

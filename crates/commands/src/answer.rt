@@ -1,5 +1,4 @@
 ghost use Rattle.commands.specs.Report.{summary_of};
-ghost use Rattle.object.specs.Inspection.{object_of};
 ghost use Rattle.std.specs.Prelude.{◌≡◌};
 
 use object::checked::{Checked, ObjectFault};
@@ -24,7 +23,7 @@ pub struct Summary {
 }
 
 impl From<&Checked<'_>> for Summary {
-    ghost from_gives = { λ checked summary. summary ≡ summary_of (object_of checked.now) };
+    ghost from_gives = { λ checked summary. summary ≡ summary_of checked.now };
 
     fn from(checked: &Checked<'_>) -> Summary {
         Summary {

@@ -1,12 +1,10 @@
-ghost use Rattle.machine.specs.Machines.{Ready};
-ghost use Rattle.object.specs.Inspection.{WellFormed, object_of};
-
 use commands::answer::{Answer, Report, Stop, Summary};
 use commands::failure::Failure;
 use commands::listing::listing;
 use commands::reply::{Reply, reply_to};
 use commands::request::Options;
 use console::SliceConsole;
+use machine::Stores;
 use machine::advance::advance;
 use machine::machine::{Machine, Progress};
 use machine::start::start;
@@ -79,35 +77,14 @@ fn run(
     machine: Machine<'_>,
     words: &[i32],
     budget: u32,
-    data: &mut [i32],
-    heap: &mut [i32],
-    call: &mut [i32],
-    operand: &mut [i32],
+    stores: &mut Stores<'_>,
     buffer: &mut [u8],
-) -> Result<Ran, Refusal>
-    requires { Ready machine }
-{
+) -> Result<Ran, Refusal> {
     let mut console = SliceConsole::new(words, buffer);
-    let progress = advance(
-        machine,
-        budget as u64,
-        data,
-        heap,
-        call,
-        operand,
-        &mut console,
-    );
-    let (stop, steps) = match progress {
+    let (stop, steps) = match advance(machine, budget as u64, stores, &mut console) {
         Progress::Ended { verdict, steps } => (Stop::Ended(verdict), steps),
-        Progress::Paused {
-            machine: _,
-            pause,
-            steps,
-        } => (Stop::Paused(pause), steps),
-        Progress::Refused {
-            refusal,
-            machine: _,
-        } => return Err(refusal),
+        Progress::Paused { pause, steps, .. } => (Stop::Paused(pause), steps),
+        Progress::Refused { refusal, .. } => return Err(refusal),
     };
     Ok(Ran {
         stop,
@@ -128,29 +105,23 @@ fn run_checked(
     checked: Checked<'_>,
     words: &[i32],
     options: Options,
-) -> Result<Answer, Failure>
-    requires { WellFormed (object_of checked) }
-{
-    let globals = checked.globals();
-    let mut data = vec![in heap; 0; globals]?;
+) -> Result<Answer, Failure> {
+    let mut data = vec![in heap; 0; checked.globals()]?;
     let mut arrays = store(heap, options.heap)?;
     let mut calls = store(heap, options.call)?;
     let mut operands = store(heap, options.operand)?;
-    let machine = match start(checked, &mut data, &mut arrays, &mut calls, &mut operands) {
+    let mut stores = Stores {
+        data: &mut data,
+        heap: &mut arrays,
+        call: &mut calls,
+        operand: &mut operands,
+    };
+    let machine = match start(checked, &mut stores) {
         Ok(machine) => machine,
         Err(refusal) => return Ok(Answer::StartRefused(refusal)),
     };
     let mut buffer = vec![in heap; 0u8; options.room as usize]?;
-    match run(
-        machine,
-        words,
-        options.budget,
-        &mut data,
-        &mut arrays,
-        &mut calls,
-        &mut operands,
-        &mut buffer,
-    ) {
+    match run(machine, words, options.budget, &mut stores, &mut buffer) {
         Ok(ran) => {
             buffer.truncate(ran.written);
             Ok(Answer::Ran(Report {

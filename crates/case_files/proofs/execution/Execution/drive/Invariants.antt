@@ -1,6 +1,5 @@
 use Rattle.std.proofs.Common.{◌≤◌}
-use Rattle.machine.specs.Machines.{Ready}
 use Rattle.case_files.proofs.execution.Execution.drive.Given as goal
 
 abbrev pub invariant-loop-run : goal.invariant-loop-run
-invariant-loop-run g l = Ready l.machine × (l.left ≤ l.budget) × goal.F-IsAlwaysCallable g l.attend
+invariant-loop-run g l = (l.left ≤ l.budget) × goal.F-IsAlwaysCallable g l.attend
