@@ -1,12 +1,13 @@
 -- What is known at a depth stays known at a greater one.
 use Rattle.std.proofs.Common.{ℕ, zero, suc, ◌+◌, ◌≤◌, Bool, true, false, leb, List, length, ℤ, pos, Some, None, Option, arith}
+use Rattle.std.specs.List.{slice_get}
 use Rattle.words.specs.declared.printing.Kind.{Kind}
 use Rattle.words.specs.Arithmetic as words
 use Rattle.words.specs.Bytes.{kept}
 use Rattle.program.specs.declared.Direction.{Direction}
 use Rattle.program.specs.declared.Variable.{Variable}
 use Rattle.program.specs.declared.Variable.TheVariants.{Local, Global}
-use Rattle.program.specs.Core.{Value, constant, load, load_element, negate, binary, new_array, length_of, convert, result, Values, no_values, and_value, Comparison, compare, Conjunction, single, both, Condition, only, either, Target, variable, element, Action, assign, step, read, print, invoke, discard, when, choose, while, break, return, give, block, nothing, Actions, no_actions, and_then, Method, at}
+use Rattle.program.specs.Core.{Value, constant, load, load_element, negate, binary, new_array, length_of, convert, result, Values, no_values, and_value, Comparison, compare, Conjunction, single, both, Condition, only, either, Target, variable, element, Action, assign, step, read, print, invoke, discard, when, choose, while, break, return, give, block, nothing, Actions, no_actions, and_then, Method}
 use Rattle.meaning.specs.World.{World, Limits, done, Work, ◌>>=◌}
 use Rattle.meaning.specs.Evaluation.{Calls, Site, get, evaluate, evaluate_all, holds, unless, provided, holds_all, satisfied, Flow, goes, broke, returned, put, store, stepped, step_by_one, read_word, choice, on, again, loop, perform, perform_all, at_end, left, frame, enter, calls}
 use Rattle.meaning.proofs.Logs.{Before, same}
@@ -146,9 +147,9 @@ module _ (L : Limits) (ms : List Method) where
   calls_more : (k m : ℕ) (vs : List ℤ) (q u : ℕ) (w : World) → Before w.log (log_of (calls L ms k m vs q u w))
   calls_more zero m vs q u w = same
   calls_more (suc k) m vs q u w =
-      (enter_follows L (calls L ms k) (calls L ms k) (λ n xs p v z. itself (calls L ms k n xs p v z) (calls_more k n xs p v z)) (at ms m) k k (omega arith) vs q u w).more
+      (enter_follows L (calls L ms k) (calls L ms k) (λ n xs p v z. itself (calls L ms k n xs p v z) (calls_more k n xs p v z)) (slice_get ms m) k k (omega arith) vs q u w).more
 
   pub calls_follow : (k j : ℕ) → k ≤ j → CallsFollow (calls L ms k) (calls L ms j)
   calls_follow zero j h m vs q u w = cut_grows (calls_more j m vs q u w)
   calls_follow (suc k) zero h m vs q u w = absurd (omega arith)
-  calls_follow (suc k) (suc j) h m vs q u w = enter_follows L (calls L ms k) (calls L ms j) (calls_follow k j (omega arith)) (at ms m) k j (omega arith) vs q u w
+  calls_follow (suc k) (suc j) h m vs q u w = enter_follows L (calls L ms k) (calls L ms j) (calls_follow k j (omega arith)) (slice_get ms m) k j (omega arith) vs q u w

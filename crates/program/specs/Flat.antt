@@ -1,6 +1,5 @@
 -- The flat list of a program: its operations in the order of their code.
-use Rattle.std.specs.Prelude.{Bool, true, false, List, [], ◌∷◌, ◌++◌, length, Some, None, Option}
-use Rattle.words.specs.declared.printing.Kind.{Kind}
+use Rattle.std.specs.Prelude.{List, [], ◌∷◌, ◌++◌, map, length}
 use Rattle.program.specs.declared.operation.Head.{Head}
 use Rattle.program.specs.declared.operation.Operation.{Operation}
 use Rattle.program.specs.declared.operation.Operation.TheVariants as op
@@ -69,13 +68,8 @@ abbrev pub flat_methods : List Method → List Operation
 flat_methods [] = []
 flat_methods (m ∷ ms) = flat_as m.body ++ op.EndMethod ∷ flat_methods ms
 
-abbrev pub has_result : Option Kind → Bool
-has_result None = false
-has_result (Some k) = true
-
 abbrev pub head_of : Method → Head
-head_of m = record { position = m.position; parameters = length m.parameters; variables = variable_count m; gives = has_result m.result }
+head_of m = record { position = m.position; parameters = length m.parameters; variables = variable_count m; result = m.result }
 
 abbrev pub heads_of : List Method → List Head
-heads_of [] = []
-heads_of (m ∷ ms) = head_of m ∷ heads_of ms
+heads_of ms = map head_of ms

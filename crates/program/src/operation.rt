@@ -4,7 +4,7 @@ use words::arithmetic::{Operator, Relation};
 use words::printing::Kind;
 
 // Operation is one element of the flat list of a program, in the order of its code.
-#[derive(Clone, Copy)]
+#[derive(Clone, Copy, PartialEq, Eq, Debug)]
 pub enum Operation {
     // A constant, a variable, or an element of the array and by the index before it.
     Constant(u32),
@@ -54,13 +54,13 @@ pub enum Operation {
 }
 
 // Head is what is known of a method beside its body.
-#[derive(Clone, Copy)]
+#[derive(Clone, Copy, PartialEq, Eq, Debug)]
 pub struct Head {
     // position is that of the method's name.
     pub position: Position,
     pub parameters: u8,
     // variables counts parameters and locals.
     pub variables: u8,
-    // gives tells whether the method has a result.
-    pub gives: bool,
+    // result is the kind of what the method gives; a void method gives nothing.
+    pub result: Option<Kind>,
 }
