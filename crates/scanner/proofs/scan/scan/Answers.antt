@@ -1,4 +1,4 @@
-use Rattle.std.proofs.Common.{List, vec_items, sym, refl, ◌∙◌, subst, arith}
+use Rattle.std.proofs.Common.{List, vec_items, sym, refl, ◌∙◌, subst, arith, rules, tests}
 use Rattle.std.proofs.lemmas.List.{append-nil}
 use Rattle.std.proofs.lemmas.Result.{err_from_is_err_and}
 use Rattle.syntax.specs.declared.token.Token.{Token as BorrowedToken}
@@ -29,7 +29,7 @@ returns-in_err-token c =
     record {
       scanned =
           step_refused c.args.text.now (tokens_meant (vec_items c.loop-scanner.tokens)) c.loop-scanner.scanner.position c.loop-scanner.scanner.rest.now c.in_err-token.field-0.0
-          c.if-text-gt-LONGEST_TEXT.false c.loop-scanner.invariant.0 c.loop-scanner-test.true c.in_err-token.ensures;
+          c.if-text-gt-LONGEST_TEXT.false c.loop-scanner.invariant.0 (search (rules, tests)) c.in_err-token.ensures;
       end = tt;
       capacity = c.loop-scanner.invariant.2 ∙ c.clear.ensures.capacity;
     })
@@ -65,7 +65,7 @@ loop-scanner-preserved c =
 pub returns : goal.returns
 returns c =
     record {
-      scanned = progress_cuts c.args.text.now _ _ _ c.if-text-gt-LONGEST_TEXT.false c.loop-scanner.invariant.0 c.loop-scanner-test.false;
-      end = progress_ends c.args.text.now _ _ _ c.loop-scanner.invariant.0 c.loop-scanner-test.false;
+      scanned = progress_cuts c.args.text.now _ _ _ c.if-text-gt-LONGEST_TEXT.false c.loop-scanner.invariant.0 (search (rules, tests));
+      end = progress_ends c.args.text.now _ _ _ c.loop-scanner.invariant.0 (search (rules, tests));
       capacity = c.loop-scanner.invariant.2 ∙ c.clear.ensures.capacity;
     }
