@@ -1,5 +1,5 @@
 -- The front of a text that the code finds is the longest lexeme.
-use Rattle.std.proofs.Common.{◌≡◌, ℕ, suc, ◌<◌, ◌≤◌, Bool, true, false, not, eqb, ◌&&◌, List, [], ◌∷◌, length, get_or, take, drop, is_some, Some, None, Option, refl, sym, ap, ◌∙◌, subst, arith}
+use Rattle.std.proofs.Common.{◌≡◌, ℕ, suc, ◌<◌, ◌≤◌, Bool, true, false, eqb, ◌&&◌, List, [], ◌∷◌, length, get_or, take, drop, is_some, Some, None, Option, refl, sym, ap, ◌∙◌, subst, arith}
 use Rattle.std.specs.Option.{option_map, MatchOption}
 use Rattle.std.specs.List.{prefix_len, starts_with}
 use Rattle.std.proofs.lemmas.List.Sums.{prefix_len_is}
@@ -11,9 +11,9 @@ use Rattle.outcomes.specs.declared.Refusal.TheVariants.{NumberTooLarge}
 use Rattle.syntax.specs.Borrowed.{kind_meant}
 use Rattle.syntax.specs.Tokens.{number, character}
 use Rattle.syntax.specs.declared.token.TokenKind.TheVariants.{Character}
-use Rattle.syntax.specs.Lexemes.{is_letter, is_digit, is_name_part, is_blank, Class, blank, comment, namelike, numeric, quotation, operator, is, escape, plain, quoted, constant, character_for, token_of, Longest, NoLexeme}
+use Rattle.syntax.specs.Lexemes.{is_letter, is_digit, is_name_part, is_blank, Class, blank, comment, namelike, numeric, quotation, operator, is, escape, plain, quoted, constant, token_of, Longest, NoLexeme}
 use Rattle.syntax.proofs.Classes.{by_first, number_class}
-use Rattle.syntax.proofs.Longest.{lexeme, leading_run, name_longest, number_longest, blank_longest, comment_longest, operator_longest, operator_none, constant_longest, constant_none}
+use Rattle.syntax.proofs.Longest.{in_line, lexeme, leading_run, name_longest, number_longest, blank_longest, comment_longest, operator_longest, operator_none, constant_longest, constant_none}
 use Rattle.scanner.specs.declared.lexeme.Lexeme.{Lexeme}
 use Rattle.scanner.specs.Bytes.{IsRun}
 use Rattle.scanner.specs.Found.{Found, FoundOrNone, Candidate, Tried, OnlyOperators, TooLarge}
@@ -40,9 +40,6 @@ number_found (b ∷ bs) n some h e = subst (λ (m : ℕ). Longest (b ∷ bs) (le
 pub blank_found : (text : List ℕ) → 0 < length text → is_blank (get_or text 0 0) ≡ true → Longest text (lexeme blank 1)
 blank_found [] some h = absurd (omega arith)
 blank_found (b ∷ bs) some h = blank_longest b bs h
-
-abbrev pub in_line : ℕ → Bool
-in_line b = not (eqb b 10)
 
 slashes_found : (bs : List ℕ) (n : ℕ) → n ≡ prefix_len in_line (47 ∷ 47 ∷ bs) → Longest (47 ∷ 47 ∷ bs) (lexeme comment n)
 slashes_found bs n e = subst (λ (m : ℕ). Longest (47 ∷ 47 ∷ bs) (lexeme comment m)) (let m : suc (suc (prefix_len in_line bs)) ≡ n = omega arith in m) (comment_longest bs _ (leading_run in_line bs))
@@ -84,7 +81,7 @@ constant_found n v (b ∷ bs) some q l e =
     record {
       class = quotation;
       longest = constant_longest b bs n (eq-eqb b 39 q) l is_one;
-      token = sym (ap (character_for character) e);
+      token = sym (ap (option_map character) e);
     }
 
 plain_is : (text : List ℕ) (r : Option ℕ) → 3 ≤ length text → get_or text 0 0 ≡ 39 → get_or text 2 0 ≡ 39 → plain (get_or text 1 0) ≡ r → constant (take 3 text) ≡ r

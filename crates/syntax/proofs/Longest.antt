@@ -1,9 +1,9 @@
 -- Which front of the bytes is their longest lexeme, class by class; `best` computes it.
 use Rattle.std.proofs.Common.{◌≡◌, ℕ, zero, suc, ◌+◌, ◌<◌, ◌≤◌, Bool, true, false, cond, not, ◌&&◌, eqb, ◌⊎◌, List, [], ◌∷◌, length, take, is_some, sym, refl, ◌∙◌, subst, ⊎_elim, arith}
-use Rattle.std.specs.List.{prefix_len}
+use Rattle.std.specs.List.{prefix_len, list_all}
 use Rattle.std.proofs.lemmas.List.{length-take-le}
 use Rattle.std.proofs.lemmas.Bool.{eqb-true, both_ways, and_parts, and_from, and_left, and_right, cond-false}
-use Rattle.syntax.specs.Lexemes.{is_letter, is_digit, is_name_part, is_blank, plain, all, Class, blank, comment, namelike, numeric, quotation, operator, is, Lexeme, Longest, NoLexeme}
+use Rattle.syntax.specs.Lexemes.{is_letter, is_digit, is_name_part, is_blank, plain, Class, blank, comment, namelike, numeric, quotation, operator, is, Lexeme, Longest, NoLexeme}
 use Rattle.syntax.proofs.Classes.{no_from, by_first, first_letter, first_digit, first_blank, first_quote, not_slash, class_first, quoted_some, quoted_value, operators_short, constants_short, class_is, none_empty}
 
 abbrev pub in_line : ℕ → Bool
@@ -15,20 +15,20 @@ lexeme c n = record { class = c; size = n }
 -- n bytes pass the test, and the next does not
 pub record Run (test : ℕ → Bool) (bs : List ℕ) (n : ℕ) : Type 0 where
   pub within : n ≤ length bs
-  pub passes : all test (take n bs) ≡ true
-  pub stops : (m : ℕ) → n < m → m ≤ length bs → all test (take m bs) ≡ false
+  pub passes : list_all test (take n bs) ≡ true
+  pub stops : (m : ℕ) → n < m → m ≤ length bs → list_all test (take m bs) ≡ false
 
 pub run_more : (test : ℕ → Bool) (b : ℕ) (bs : List ℕ) (n : ℕ) → test b ≡ true → Run test bs n → Run test (b ∷ bs) (suc n)
 run_more test b bs n h r = record { within = omega (arith, r.within); passes = and_from _ _ h r.passes; stops = stops }
   where
-    stops : (m : ℕ) → suc n < m → m ≤ length (b ∷ bs) → all test (take m (b ∷ bs)) ≡ false
+    stops : (m : ℕ) → suc n < m → m ≤ length (b ∷ bs) → list_all test (take m (b ∷ bs)) ≡ false
     stops zero l g = absurd (omega arith)
     stops (suc m) l g = and_right (test b) _ (r.stops m (omega arith) (omega arith))
 
 pub run_none : (test : ℕ → Bool) (b : ℕ) (bs : List ℕ) → test b ≡ false → Run test (b ∷ bs) 0
 run_none test b bs h = record { within = omega arith; passes = refl; stops = stops }
   where
-    stops : (m : ℕ) → 0 < m → m ≤ length (b ∷ bs) → all test (take m (b ∷ bs)) ≡ false
+    stops : (m : ℕ) → 0 < m → m ≤ length (b ∷ bs) → list_all test (take m (b ∷ bs)) ≡ false
     stops zero l g = absurd (omega arith)
     stops (suc m) l g = and_left (test b) _ h
 
@@ -84,7 +84,7 @@ comment_longest bs n r = record { within = omega (arith, r.within); lexeme = r.p
     longest (suc zero) d l g = absurd (omega arith)
     longest (suc (suc m)) d l g =
         no_from _ (λ h.
-        let o : d ≡ operator = sym (class_is d (47 ∷ 47 ∷ take m bs) h) ∙ cond-false (all in_line (take m bs)) comment operator (r.stops m (omega arith) (omega arith)) in
+        let o : d ≡ operator = sym (class_is d (47 ∷ 47 ∷ take m bs) h) ∙ cond-false (list_all in_line (take m bs)) comment operator (r.stops m (omega arith) (omega arith)) in
         let short : length (47 ∷ 47 ∷ take m bs) ≤ 2 = operators_short (47 ∷ 47 ∷ take m bs) (subst (λ (x : Class). is x (47 ∷ 47 ∷ take m bs) ≡ true) o h) in
         omega (arith, length-take-le m bs (omega arith)))
 

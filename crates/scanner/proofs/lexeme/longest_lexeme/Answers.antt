@@ -1,6 +1,7 @@
 use Rattle.std.proofs.Common.{sym, refl, ap, ◌∙◌, rules, tests}
 use Rattle.syntax.specs.Lexemes.{blank, comment, namelike, numeric, token_of, is_name_part, is_digit}
-use Rattle.scanner.proofs.Finding.{run_size, word_found, number_found, blank_found, comment_found, in_line}
+use Rattle.syntax.proofs.Longest.{in_line}
+use Rattle.scanner.proofs.Finding.{run_size, word_found, number_found, blank_found, comment_found}
 use Rattle.scanner.proofs.lexeme.longest_lexeme.Goals as goal
 
 pub returns-then-is_ascii_alphabetic : goal.returns-then-is_ascii_alphabetic
