@@ -1,6 +1,6 @@
 -- Whole programs: items are judged in the order of the text, and the first that is not legal decides.
-use Rattle.std.specs.Prelude.{ℕ, ◌+◌, Bool, true, false, List, [], ◌∷◌, ◌++◌, length, Some, None, Ok, Err, codes, Option, Result}
-use Rattle.std.specs.Option.{option_or}
+use Rattle.std.specs.Prelude.{ℕ, ◌+◌, Bool, true, false, List, [], ◌∷◌, ◌++◌, map, length, Some, None, Ok, Err, codes, Option, Result}
+use Rattle.std.specs.Option.{option_map, option_or}
 use Rattle.outcomes.specs.declared.Fault.{Fault}
 use Rattle.outcomes.specs.declared.Position.{Position}
 use Rattle.words.specs.declared.printing.Kind.{Kind}
@@ -75,8 +75,7 @@ enter_locals k [] S = S
 enter_locals k (d ∷ ds) S = enter_locals k ds (with_local S (name_of d).text (scope.variable (Local (length S.local)) (shape_of k d)))
 
 abbrev pub shapes_of : Kind → List Declared → List Shape
-shapes_of k [] = []
-shapes_of k (d ∷ ds) = shape_of k d ∷ shapes_of k ds
+shapes_of k ds = map (shape_of k) ds
 
 pub record Locals : Type 0 where
   pub scope : Scope
@@ -91,7 +90,7 @@ local_variables (v ∷ vs) S = do
 
 abbrev pub result_of : ResultType → Scope → Option (Option Kind)
 result_of (void p) S = Some None
-result_of (typed x) S = typing.◌>>=◌ (kind_of S x) λ k. Some (Some k)
+result_of (typed x) S = option_map Some (kind_of S x)
 
 abbrev pub result_names : ResultType → List Name
 result_names (void p) = []

@@ -90,27 +90,23 @@ holds (compare r v u) s = do
   b ← evaluate u (holding 1 s)
   done (words.holds r a b)
 
-abbrev pub unless : Bool → Work Bool → Work Bool
-unless true go = done true
-unless false go = go
-
-abbrev pub provided : Bool → Work Bool → Work Bool
-provided true go = go
-provided false go = done false
+abbrev pub choice : {A : Type 0} → Bool → Work A → Work A → Work A
+choice true go other = go
+choice false go other = other
 
 -- && stops at the first comparison that does not hold
 abbrev pub holds_all : Conjunction → Site → Work Bool
 holds_all (single c) s = holds c s
 holds_all (both c k) s = do
   b ← holds c s
-  provided b (holds_all k s)
+  choice b (holds_all k s) (done false)
 
 -- || stops at the first term that holds
 abbrev pub satisfied : Condition → Site → Work Bool
 satisfied (only k) s = holds_all k s
 satisfied (either k c) s = do
   b ← holds_all k s
-  unless b (satisfied c s)
+  choice b (done true) (satisfied c s)
 
 -- how a statement is left: it goes on with these locals, breaks out of a loop, or returns from its method
 pub data Flow : Type 0 where
@@ -158,10 +154,6 @@ abbrev pub read_word : Kind → Site → Work ℤ
 read_word k s = do
   v ← take_word
   done (kept k v)
-
-abbrev pub choice : {A : Type 0} → Bool → Work A → Work A → Work A
-choice true go other = go
-choice false go other = other
 
 -- statements go in order
 abbrev pub on : Flow → (List ℤ → Work Flow) → Work Flow
