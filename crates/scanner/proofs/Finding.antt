@@ -3,7 +3,7 @@ use Rattle.std.proofs.Common.{◌≡◌, ℕ, suc, ◌<◌, ◌≤◌, Bool, tru
 use Rattle.std.specs.Option.{option_map, MatchOption}
 use Rattle.std.specs.List.{prefix_len, starts_with}
 use Rattle.std.proofs.lemmas.List.Sums.{prefix_len_is}
-use Rattle.std.proofs.lemmas.Bool.{cond-true, cond-false, eq-eqb, eqb-true, or_left}
+use Rattle.std.proofs.lemmas.Bool.{and_parts, cond-true, cond-false, eq-eqb, eqb-true, or_left}
 use Rattle.std.proofs.lemmas.Bool.Decides.{Decides-eqb}
 use Rattle.std.proofs.lemmas.Slice.Eq.{starts_is}
 use Rattle.outcomes.specs.declared.Position.{Position}
@@ -84,69 +84,45 @@ constant_found n v (b ∷ bs) some q l e =
       token = sym (ap (option_map character) e);
     }
 
-plain_is : (text : List ℕ) (r : Option ℕ) → 3 ≤ length text → get_or text 0 0 ≡ 39 → get_or text 2 0 ≡ 39 → plain (get_or text 1 0) ≡ r → constant (take 3 text) ≡ r
-plain_is [] r l q z e = absurd (omega arith)
-plain_is (a ∷ []) r l q z e = absurd (omega arith)
-plain_is (a ∷ b ∷ []) r l q z e = absurd (omega arith)
-plain_is (a ∷ b ∷ c ∷ bs) r l q z e = rw (q, z) e
+three_bytes : (text : List ℕ) → 3 ≤ length text → constant (take 3 text) ≡ quoted (eqb (get_or text 0 0) 39 && eqb (get_or text 2 0) 39) (plain (get_or text 1 0))
+three_bytes [] l = absurd (omega arith)
+three_bytes (a ∷ []) l = absurd (omega arith)
+three_bytes (a ∷ b ∷ []) l = absurd (omega arith)
+three_bytes (a ∷ b ∷ c ∷ bs) l = refl
 
-escape_is :
-    (text : List ℕ) (r : Option ℕ) → 4 ≤ length text → get_or text 0 0 ≡ 39 → get_or text 1 0 ≡ 92 → get_or text 3 0 ≡ 39 → escape (get_or text 2 0) ≡ r → constant (take 4 text) ≡ r
-escape_is [] r l q s z e = absurd (omega arith)
-escape_is (a ∷ []) r l q s z e = absurd (omega arith)
-escape_is (a ∷ b ∷ []) r l q s z e = absurd (omega arith)
-escape_is (a ∷ b ∷ c ∷ []) r l q s z e = absurd (omega arith)
-escape_is (a ∷ b ∷ c ∷ d ∷ bs) r l q s z e = rw (q, s, z) e
+four_bytes :
+    (text : List ℕ) → 4 ≤ length text →
+    constant (take 4 text) ≡ quoted ((eqb (get_or text 0 0) 39 && eqb (get_or text 1 0) 92) && eqb (get_or text 3 0) 39) (escape (get_or text 2 0))
+four_bytes [] l = absurd (omega arith)
+four_bytes (a ∷ []) l = absurd (omega arith)
+four_bytes (a ∷ b ∷ []) l = absurd (omega arith)
+four_bytes (a ∷ b ∷ c ∷ []) l = absurd (omega arith)
+four_bytes (a ∷ b ∷ c ∷ d ∷ bs) l = refl
 
 pub plain_found :
     (text : List ℕ) (v : ℕ) → 3 ≤ length text → get_or text 0 0 ≡ 39 → get_or text 2 0 ≡ 39 → plain (get_or text 1 0) ≡ Some v → Found text (character_lexeme 3 v)
-plain_found text v l q z e = constant_found 3 v text (omega arith) q l (plain_is text (Some v) l q z e)
+plain_found text v l q z e = constant_found 3 v text (omega arith) q l (three_bytes text l ∙ (rw (q, z) e))
 
 pub escape_found :
     (text : List ℕ) (v : ℕ) → 4 ≤ length text → get_or text 0 0 ≡ 39 → get_or text 1 0 ≡ 92 → get_or text 3 0 ≡ 39 → escape (get_or text 2 0) ≡ Some v → Found text (character_lexeme 4 v)
-escape_found text v l q s z e = constant_found 4 v text (omega arith) q l (escape_is text (Some v) l q s z e)
+escape_found text v l q s z e = constant_found 4 v text (omega arith) q l (four_bytes text l ∙ (rw (q, s, z) e))
 
-quoted_none : (t : Bool) → quoted t None ≡ None
-quoted_none true = refl
-quoted_none false = refl
-
-unquoted : (t : Bool) (r : Option ℕ) → quoted (t && false) r ≡ None
-unquoted true r = refl
-unquoted false r = refl
-
-three_none : (text : List ℕ) → 3 ≤ length text → (get_or text 2 0 ≡ 39 → plain (get_or text 1 0) ≡ None) → constant (take 3 text) ≡ None
-three_none [] l h = absurd (omega arith)
-three_none (a ∷ []) l h = absurd (omega arith)
-three_none (a ∷ b ∷ []) l h = absurd (omega arith)
-three_none (a ∷ b ∷ c ∷ bs) l h = closed (eqb c 39) refl
-  where
-    closed : (t : Bool) → eqb c 39 ≡ t → quoted (eqb a 39 && t) (plain b) ≡ None
-    closed true e = rw (h (eqb-true c 39 e)) (quoted_none (eqb a 39 && true))
-    closed false e = unquoted (eqb a 39) (plain b)
-
-four_none : (text : List ℕ) → 4 ≤ length text → (get_or text 1 0 ≡ 92 → get_or text 3 0 ≡ 39 → escape (get_or text 2 0) ≡ None) → constant (take 4 text) ≡ None
-four_none [] l h = absurd (omega arith)
-four_none (a ∷ []) l h = absurd (omega arith)
-four_none (a ∷ b ∷ []) l h = absurd (omega arith)
-four_none (a ∷ b ∷ c ∷ []) l h = absurd (omega arith)
-four_none (a ∷ b ∷ c ∷ d ∷ bs) l h = slashed (eqb b 92) refl (eqb d 39) refl
-  where
-    slashed : (t : Bool) → eqb b 92 ≡ t → (u : Bool) → eqb d 39 ≡ u → quoted ((eqb a 39 && t) && u) (escape c) ≡ None
-    slashed true e true f = rw (h (eqb-true b 92 e) (eqb-true d 39 f)) (quoted_none ((eqb a 39 && true) && true))
-    slashed false e true f = neither (eqb a 39)
-      where
-        neither : (t : Bool) → quoted ((t && false) && true) (escape c) ≡ None
-        neither true = refl
-        neither false = refl
-    slashed t e false f = unquoted (eqb a 39 && t) (escape c)
+shut : (t : Bool) (r : Option ℕ) → (t ≡ true → r ≡ None) → quoted t r ≡ None
+shut true r h = h refl
+shut false r h = refl
 
 -- no character constant begins with the quote, and nothing else does
 pub no_constant :
     (text : List ℕ) → 0 < length text → get_or text 0 0 ≡ 39 → (3 ≤ length text → get_or text 2 0 ≡ 39 → plain (get_or text 1 0) ≡ None) →
     (4 ≤ length text → get_or text 1 0 ≡ 92 → get_or text 3 0 ≡ 39 → escape (get_or text 2 0) ≡ None) → NoLexeme text
 no_constant [] some q three four = absurd (omega arith)
-no_constant (b ∷ bs) some q three four =
-    constant_none b bs (eq-eqb b 39 q) (λ l. ap is_some (three_none (b ∷ bs) l (three l))) (λ l. ap is_some (four_none (b ∷ bs) l (four l)))
+no_constant (b ∷ bs) some q three four = constant_none b bs (eq-eqb b 39 q) (λ l. ap is_some (no_three l)) (λ l. ap is_some (no_four l))
+  where
+    no_three : 3 ≤ length (b ∷ bs) → constant (take 3 (b ∷ bs)) ≡ None
+    no_three l = three_bytes (b ∷ bs) l ∙ shut _ _ (λ e. three l (eqb-true _ 39 (and_parts _ _ e).1))
+
+    no_four : 4 ≤ length (b ∷ bs) → constant (take 4 (b ∷ bs)) ≡ None
+    no_four l = four_bytes (b ∷ bs) l ∙ shut _ _ (λ e. let front = and_parts _ _ e in four l (eqb-true _ 92 (and_parts _ _ front.0).1) (eqb-true _ 39 front.1))
 
 pub large_found : (rest : List ℕ) (p : Position) (l : Lexeme) → Found rest l → TooLarge (option_map kind_meant l.kind) → RefusedAt rest p (record { refusal = NumberTooLarge; position = p })
 large_found rest p l f t =

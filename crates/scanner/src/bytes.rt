@@ -20,6 +20,9 @@ pub(crate) fn run<F: Fn(u8) -> bool>(text: &[u8], passes: F) -> &[u8]
     requires { F.IsAlwaysCallable passes }
     ensures { IsRun (F.post passes) text.now result.now }
 {
-    let end = text.iter().position(|&byte| !passes(byte));
-    &text[..end.unwrap_or(text.len())]
+    let size = text
+        .iter()
+        .position(|&byte| !passes(byte))
+        .unwrap_or(text.len());
+    &text[..size]
 }
