@@ -24,7 +24,7 @@ abbrev pub ◌>>=◌ : {A B : Type 0} → Option A → (A → Option B) → Opti
 abbrev pub if : {A : Type 0} → Bool → A → Option A
 if rule a = cond rule (Some a) None
 
--- types are the same if both are words or both arrays, of one kind
+-- types are the same if both are single values or both arrays, of one kind
 abbrev pub same_shape : Shape → Shape → Bool
 same_shape (Scalar j) (Scalar k) = same_kind j k
 same_shape (Scalar j) (Array k) = false

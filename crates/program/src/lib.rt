@@ -11,7 +11,7 @@ pub mod operation;
 
 use words::printing::Kind;
 
-// Shape is the type of a variable: a word of a kind, or an array of words of a kind.
+// Shape is the type of a variable: a single value of a kind, or an array of them.
 #[derive(Clone, Copy, PartialEq, Eq, Debug)]
 pub enum Shape {
     Scalar(Kind),

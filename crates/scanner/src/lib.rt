@@ -12,3 +12,5 @@ mod lexeme;
 mod numbers;
 pub mod scan;
 mod symbols;
+#[cfg(test)]
+mod tests;
