@@ -1,6 +1,7 @@
 -- The code of each form is as long as its size says.
-use Rattle.std.proofs.Common.{◌≡◌, ℕ, ◌+◌, List, [], ◌∷◌, ◌++◌, length, Some, None, Option, refl, ap, ◌∙◌, append-nil, arith, length-append}
+use Rattle.std.proofs.Common.{◌≡◌, ℕ, ◌+◌, List, [], ◌∷◌, ◌++◌, length, Some, None, Option, sym, refl, ap, ◌∙◌, append-nil, arith, length-append}
 use Rattle.std.proofs.lemmas.Grind.{flat_map-append}
+use Rattle.std.proofs.lemmas.List.Sums.{sum_by-cons}
 use Rattle.words.specs.declared.arithmetic.Relation.{Relation}
 use Rattle.words.specs.declared.printing.Kind.{Kind}
 use Rattle.instructions.specs.declared.Instruction.{Instruction}
@@ -111,7 +112,7 @@ module _ (entry : ℕ → ℕ) where
 
   pub methods_size : (ms : List Method) (pc : ℕ) → Long (code_methods entry ms pc) (size_methods ms)
   methods_size [] pc = none
-  methods_size (m ∷ ms) pc = method_size m pc then methods_size ms _
+  methods_size (m ∷ ms) pc = as_sum (method_size m pc then methods_size ms _) (sym (sum_by-cons size_method m ms))
 
 pub code_has_its_size : CodeHasItsSize
 code_has_its_size p = (methods_size (entry_of p.methods) p.methods 0).is
