@@ -174,17 +174,15 @@ one_argument [] = None
 one_argument (a ∷ []) = Some a
 one_argument (a ∷ b ∷ xs) = None
 
-abbrev pub result_given : ℕ → Option Kind → List Typed → Option Typed
-result_given m None xs = None
-result_given m (Some k) xs = Some (typed (core.result m (values_of xs)) (Scalar k))
-
 -- a call as a value: the method has a result
 abbrev pub result_named : Thing → List Typed → Option Typed
 result_named class xs = None
 result_named (type_name k) xs = None
 result_named (constant t n) xs = None
 result_named (variable x s) xs = None
-result_named (method m r ps) xs = cond (suit ps xs) (result_given m r xs) None
+result_named (method m r ps) xs = do
+  k ← r
+  if (suit ps xs) (typed (core.result m (values_of xs)) (Scalar k))
 result_named (standard f) xs = do
   a ← one_argument xs
   standard_of f a
@@ -350,7 +348,7 @@ returning None = Some core.return
 returning (Some k) = None
 
 abbrev pub giving : Option Kind → Expr → Scope → Option Action
-giving None e S = None
-giving (Some k) e S = do
+giving r e S = do
+  k ← r
   a ← type_e e S
   if (assignable (Scalar k) a.type) (core.give a.value)
