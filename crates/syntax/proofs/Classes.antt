@@ -9,10 +9,6 @@ use Rattle.syntax.specs.declared.symbol.Symbol.{Symbol}
 use Rattle.syntax.specs.Tokens.{name, number, character, symbol}
 use Rattle.syntax.specs.Lexemes.{keywords, token_of, is_letter, is_digit, is_blank, Spelt, seek, operators, constant, quoted, Class, blank, comment, namelike, numeric, quotation, operator, is, NoLexeme}
 
-pub no_from : (t : Bool) → (t ≡ true → ⊥) → t ≡ false
-no_from true h = absurd (h refl)
-no_from false h = refl
-
 -- the class of what begins with a byte, apart from comments
 abbrev pub by_first : ℕ → Class
 by_first b = cond (is_letter b) namelike (cond (is_digit b) numeric (cond (is_blank b) blank (cond (eqb b 39) quotation operator)))
@@ -153,21 +149,21 @@ empty_none (suc n) c l = none_empty c
 
 -- only a number's token is a number
 pub number_class : (c : Class) (w : List ℕ) (n : ℕ) → token_of c w ≡ Some (number n) → c ≡ numeric
-number_class blank w n e = absurd (let z : ◌≡◌ {A = ℕ} 0 1 = cc in omega arith)
-number_class comment w n e = absurd (let z : ◌≡◌ {A = ℕ} 0 1 = cc in omega arith)
+number_class blank w n e = absurd cc
+number_class comment w n e = absurd cc
 number_class namelike w n e = name_kind (seek keywords w) e
   where
     name_kind : (s : Option Symbol) → option_or (option_map symbol s) (Some (name w)) ≡ Some (number n) → namelike ≡ numeric
-    name_kind None e = absurd (let z : ◌≡◌ {A = ℕ} 0 1 = cc in omega arith)
-    name_kind (Some s) e = absurd (let z : ◌≡◌ {A = ℕ} 0 1 = cc in omega arith)
+    name_kind None e = absurd cc
+    name_kind (Some s) e = absurd cc
 number_class numeric w n e = refl
 number_class quotation w n e = constant_kind (constant w) e
   where
     constant_kind : (v : Option ℕ) → option_map character v ≡ Some (number n) → quotation ≡ numeric
-    constant_kind None e = absurd (let z : ◌≡◌ {A = ℕ} 0 1 = cc in omega arith)
-    constant_kind (Some v) e = absurd (let z : ◌≡◌ {A = ℕ} 0 1 = cc in omega arith)
+    constant_kind None e = absurd cc
+    constant_kind (Some v) e = absurd cc
 number_class operator w n e = symbol_kind (seek operators w) e
   where
     symbol_kind : (s : Option Symbol) → option_map symbol s ≡ Some (number n) → operator ≡ numeric
-    symbol_kind None e = absurd (let z : ◌≡◌ {A = ℕ} 0 1 = cc in omega arith)
-    symbol_kind (Some s) e = absurd (let z : ◌≡◌ {A = ℕ} 0 1 = cc in omega arith)
+    symbol_kind None e = absurd cc
+    symbol_kind (Some s) e = absurd cc
