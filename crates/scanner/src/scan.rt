@@ -47,7 +47,7 @@ pub fn scan<'a>(text: &'a [u8], tokens: &mut Vec<Token<'a>>) -> Result<Position,
 
 impl<'a> Scanner<'a> {
     // next goes behind the next lexeme, and gives its token where it is one.
-    // It is no Iterator's: scan asks for the position behind the last lexeme too, and next for room that a trait's method can't.
+    // It is no Iterator's: scan needs the position behind the last lexeme too, and a trait's method can't ask for room.
     fn next(&mut self) -> Result<Option<Token<'a>>, Fault>
         requires some { 0 < length self.old.rest.now }
         requires room { Room self.old.position (length self.old.rest.now) }
