@@ -7,7 +7,7 @@ use Rattle.syntax.specs.Spelling as spelling
 use Rattle.syntax.specs.Reading.{OneReading}
 use Rattle.syntax.proofs.Fronts.{a_name, front, is_front}
 use Rattle.syntax.proofs.Parser.{took, p_declared, p_declareds, p_declarations, p_locals, p_others, p_parameters, p_result, p_method, p_methods, p_program, p_ss}
-use Rattle.syntax.proofs.Complete.{keep, Reads, Not}
+use Rattle.syntax.proofs.Complete.{keep, Reads, deeper, Not}
 use Rattle.syntax.proofs.CompleteStatements.{ClosesBlock, split, reads_statements}
 
 -- what may follow a name and its brackets
@@ -19,26 +19,18 @@ abbrev AfterDeclareds : List Token → Type 0
 AfterDeclareds us = Not sym.OpenBracket us × Not sym.Comma us
 
 reads_declareds : (ds : Declareds) → Reads p_declareds (spelling.declareds keep ds) ds AfterDeclareds
-reads_declareds (last d) = record { need = 1; reads = go }
-  where
-    go : (n : ℕ) (us : List Token) → 1 ≤ n → AfterDeclareds us → p_declareds n (spelling.declareds keep (last d) ++ us) ≡ took (last d) us
-    go zero us h f = absurd (omega arith)
-    go (suc m) us h f =
-        let a = declared_reads d us f.0 in
-        rw (a, f.1) refl
+reads_declareds (last d) = deeper 0 (λ m us h f.
+    let a = declared_reads d us f.0 in
+    rw (a, f.1) refl)
 reads_declareds (and d p ds) = more d p ds (reads_declareds ds)
   where
     more : (d : Declared) (p : At) (ds : Declareds) → Reads p_declareds (spelling.declareds keep ds) ds AfterDeclareds → Reads p_declareds (spelling.declareds keep (and d p ds)) (and d p ds) AfterDeclareds
-    more d p ds r = record { need = suc r.need; reads = go }
-      where
-        go : (n : ℕ) (us : List Token) → suc r.need ≤ n → AfterDeclareds us → p_declareds n (spelling.declareds keep (and d p ds) ++ us) ≡ took (and d p ds) us
-        go zero us h f = absurd (omega arith)
-        go (suc m) us h f =
-            let t = spelling.sign keep 0 sym.Comma p ∷ (spelling.declareds keep ds ++ us) in
-            let w : spelling.declareds keep (and d p ds) ++ us ≡ spelling.declared keep d ++ t = append_assoc (spelling.declared keep d) (spelling.sign keep 0 sym.Comma p ∷ spelling.declareds keep ds) us in
-            let a = declared_reads d t refl in
-            let b = r.reads m us (omega arith) f in
-            rw (w, a, b) refl
+    more d p ds r = deeper r.need (λ m us h f.
+        let t = spelling.sign keep 0 sym.Comma p ∷ (spelling.declareds keep ds ++ us) in
+        let w : spelling.declareds keep (and d p ds) ++ us ≡ spelling.declared keep d ++ t = append_assoc (spelling.declared keep d) (spelling.sign keep 0 sym.Comma p ∷ spelling.declareds keep ds) us in
+        let a = declared_reads d t refl in
+        let b = r.reads m us (omega arith) f in
+        rw (w, a, b) refl)
 
 -- the names of a declaration and the semicolon behind them
 names_read : (v : Variables) (n : ℕ) (us : List Token) → (reads_declareds v.declared).need ≤ n → p_declareds n (spelling.declareds keep v.declared ++ spelling.sign keep 0 sym.Semicolon v.semicolon ∷ us) ≡ took v.declared (spelling.sign keep 0 sym.Semicolon v.semicolon ∷ us)
@@ -62,14 +54,10 @@ declaration_first (constant p x y q l r) ds s = record { need = suc s.need; read
     go (integer k t) (suc m) us h f = let b = s.reads m us (omega arith) f in rw b refl
     go (letter k t) zero us h f = absurd (omega arith)
     go (letter k t) (suc m) us h f = let b = s.reads m us (omega arith) f in rw b refl
-declaration_first (variables v) ds s = record { need = suc (max (reads_declareds v.declared).need s.need); reads = go }
-  where
-    go : (n : ℕ) (us : List Token) → suc (max (reads_declareds v.declared).need s.need) ≤ n → AfterDeclarations us → p_declarations n (spelling.declarations keep (variables v ∷ ds) ++ us) ≡ took (variables v ∷ ds) us
-    go zero us h f = absurd (omega arith)
-    go (suc m) us h f =
-        let a = names_read v m (spelling.declarations keep ds ++ us) (omega arith) in
-        let b = s.reads m us (omega arith) f in
-        simp append_assoc (rw (a, b) refl)
+declaration_first (variables v) ds s = deeper (max (reads_declareds v.declared).need s.need) (λ m us h f.
+    let a = names_read v m (spelling.declarations keep ds ++ us) (omega arith) in
+    let b = s.reads m us (omega arith) f in
+    simp append_assoc (rw (a, b) refl))
 
 reads_declarations : (ds : List Declaration) → Reads p_declarations (spelling.declarations keep ds) ds AfterDeclarations
 reads_declarations [] = record { need = 1; reads = no_declarations }
@@ -80,14 +68,10 @@ no_locals zero us h f = absurd (omega arith)
 no_locals (suc m) us h f = let a = opens_nothing us f in rw a.1 refl
 
 locals_first : (v : Variables) (vs : List Variables) → Reads p_locals (spelling.local_variables keep vs) vs AfterDeclarations → Reads p_locals (spelling.local_variables keep (v ∷ vs)) (v ∷ vs) AfterDeclarations
-locals_first v vs s = record { need = suc (max (reads_declareds v.declared).need s.need); reads = go }
-  where
-    go : (n : ℕ) (us : List Token) → suc (max (reads_declareds v.declared).need s.need) ≤ n → AfterDeclarations us → p_locals n (spelling.local_variables keep (v ∷ vs) ++ us) ≡ took (v ∷ vs) us
-    go zero us h f = absurd (omega arith)
-    go (suc m) us h f =
-        let a = names_read v m (spelling.local_variables keep vs ++ us) (omega arith) in
-        let b = s.reads m us (omega arith) f in
-        simp append_assoc (rw (a, b) refl)
+locals_first v vs s = deeper (max (reads_declareds v.declared).need s.need) (λ m us h f.
+    let a = names_read v m (spelling.local_variables keep vs ++ us) (omega arith) in
+    let b = s.reads m us (omega arith) f in
+    simp append_assoc (rw (a, b) refl))
 
 reads_locals : (vs : List Variables) → Reads p_locals (spelling.local_variables keep vs) vs AfterDeclarations
 reads_locals [] = record { need = 1; reads = no_locals }
@@ -108,15 +92,11 @@ no_bracket [] us f = (closes_nothing us f).0.1
 no_bracket (x ∷ xs) us f = refl
 
 others_first : (x : At × Parameter) (xs : List (At × Parameter)) → Reads p_others (spelling.other_parameters keep xs) xs AfterParameters → Reads p_others (spelling.other_parameters keep (x ∷ xs)) (x ∷ xs) AfterParameters
-others_first x xs s = record { need = suc s.need; reads = go }
-  where
-    go : (n : ℕ) (us : List Token) → suc s.need ≤ n → AfterParameters us → p_others n (spelling.other_parameters keep (x ∷ xs) ++ us) ≡ took (x ∷ xs) us
-    go zero us h f = absurd (omega arith)
-    go (suc m) us h f =
-        let w = append_assoc (spelling.declared keep x.1.declared) (spelling.other_parameters keep xs) us in
-        let a = declared_reads x.1.declared (spelling.other_parameters keep xs ++ us) (no_bracket xs us f) in
-        let b = s.reads m us (omega arith) f in
-        ap (λ l. p_others (suc m) (spelling.sign keep 0 sym.Comma x.0 ∷ (spelling.named keep 0 x.1.kind ∷ l))) w ∙ rw (a, b) refl
+others_first x xs s = deeper s.need (λ m us h f.
+    let w = append_assoc (spelling.declared keep x.1.declared) (spelling.other_parameters keep xs) us in
+    let a = declared_reads x.1.declared (spelling.other_parameters keep xs ++ us) (no_bracket xs us f) in
+    let b = s.reads m us (omega arith) f in
+    ap (λ l. p_others (suc m) (spelling.sign keep 0 sym.Comma x.0 ∷ (spelling.named keep 0 x.1.kind ∷ l))) w ∙ rw (a, b) refl)
 
 reads_others : (xs : List (At × Parameter)) → Reads p_others (spelling.other_parameters keep xs) xs AfterParameters
 reads_others [] = record { need = 1; reads = no_others }
