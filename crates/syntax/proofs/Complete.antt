@@ -99,19 +99,14 @@ no_terms_reads l = deeper 0 (λ m us h f. rw (f.1, f.2) refl)
 and_term_reads :
     (o : Addop) (p : At) (t : Term) (ts : Terms) (l : ℕ) → Reads p_t (spelling.term keep t l 0) t AfterTerm → Reads p_ts (spelling.terms keep ts l) ts AfterExpr →
     Reads p_ts (spelling.terms keep (and_term o p t ts) l) (and_term o p t ts) AfterExpr
-and_term_reads o p t ts l r s = record { need = suc (max r.need s.need); reads = go o }
-  where
-    go : (o : Addop) (n : ℕ) (us : List Token) → suc (max r.need s.need) ≤ n → AfterExpr us → p_ts n (spelling.terms keep (and_term o p t ts) l ++ us) ≡ took (and_term o p t ts) us
-    go plus zero us h f = absurd (omega arith)
-    go plus (suc m) us h f =
-        let a = r.reads m (spelling.terms keep ts l ++ us) (omega arith) (after_terms ts l us f) in
-        let b = s.reads m us (omega arith) f in
-        rw (append_assoc, a, b) refl
-    go minus zero us h f = absurd (omega arith)
-    go minus (suc m) us h f =
-        let a = r.reads m (spelling.terms keep ts l ++ us) (omega arith) (after_terms ts l us f) in
-        let b = s.reads m us (omega arith) f in
-        rw (append_assoc, a, b) refl
+and_term_reads plus p t ts l r s = deeper (max r.need s.need) (λ m us h f.
+    let a = r.reads m (spelling.terms keep ts l ++ us) (omega arith) (after_terms ts l us f) in
+    let b = s.reads m us (omega arith) f in
+    rw (append_assoc, a, b) refl)
+and_term_reads minus p t ts l r s = deeper (max r.need s.need) (λ m us h f.
+    let a = r.reads m (spelling.terms keep ts l ++ us) (omega arith) (after_terms ts l us f) in
+    let b = s.reads m us (omega arith) f in
+    rw (append_assoc, a, b) refl)
 
 product_reads :
     (g : Factor) (fs : Factors) (l o : ℕ) → Reads p_f (spelling.factor keep g l o) g AfterFactor → Reads p_fs (spelling.factors keep fs l) fs AfterTerm → Reads p_t (spelling.term keep (product g fs) l o) (product g fs) AfterTerm
@@ -126,24 +121,18 @@ no_factors_reads l = deeper 0 (λ m us h f. rw (f.1, f.2, f.3) refl)
 and_factor_reads :
     (o : Mulop) (p : At) (g : Factor) (fs : Factors) (l : ℕ) → Reads p_f (spelling.factor keep g l 0) g AfterFactor → Reads p_fs (spelling.factors keep fs l) fs AfterTerm →
     Reads p_fs (spelling.factors keep (and_factor o p g fs) l) (and_factor o p g fs) AfterTerm
-and_factor_reads o p g fs l r s = record { need = suc (max r.need s.need); reads = go o }
-  where
-    go : (o : Mulop) (n : ℕ) (us : List Token) → suc (max r.need s.need) ≤ n → AfterTerm us → p_fs n (spelling.factors keep (and_factor o p g fs) l ++ us) ≡ took (and_factor o p g fs) us
-    go times zero us h f = absurd (omega arith)
-    go times (suc m) us h f =
-        let a = r.reads m (spelling.factors keep fs l ++ us) (omega arith) (after_factors fs l us f) in
-        let b = s.reads m us (omega arith) f in
-        rw (append_assoc, a, b) refl
-    go over zero us h f = absurd (omega arith)
-    go over (suc m) us h f =
-        let a = r.reads m (spelling.factors keep fs l ++ us) (omega arith) (after_factors fs l us f) in
-        let b = s.reads m us (omega arith) f in
-        rw (append_assoc, a, b) refl
-    go percent zero us h f = absurd (omega arith)
-    go percent (suc m) us h f =
-        let a = r.reads m (spelling.factors keep fs l ++ us) (omega arith) (after_factors fs l us f) in
-        let b = s.reads m us (omega arith) f in
-        rw (append_assoc, a, b) refl
+and_factor_reads times p g fs l r s = deeper (max r.need s.need) (λ m us h f.
+    let a = r.reads m (spelling.factors keep fs l ++ us) (omega arith) (after_factors fs l us f) in
+    let b = s.reads m us (omega arith) f in
+    rw (append_assoc, a, b) refl)
+and_factor_reads over p g fs l r s = deeper (max r.need s.need) (λ m us h f.
+    let a = r.reads m (spelling.factors keep fs l ++ us) (omega arith) (after_factors fs l us f) in
+    let b = s.reads m us (omega arith) f in
+    rw (append_assoc, a, b) refl)
+and_factor_reads percent p g fs l r s = deeper (max r.need s.need) (λ m us h f.
+    let a = r.reads m (spelling.factors keep fs l ++ us) (omega arith) (after_factors fs l us f) in
+    let b = s.reads m us (omega arith) f in
+    rw (append_assoc, a, b) refl)
 
 -- what may follow a designator
 abbrev pub AfterName : List Token → Type 0
@@ -167,13 +156,8 @@ call_reads d p xs q l o r s = deeper (max r.need s.need) (λ m us h f.
     rw (e, c, a, b) refl)
 
 literal_reads : (x : Literal) (l o : ℕ) → Reads p_f (spelling.factor keep (literal x) l o) (literal x) AfterFactor
-literal_reads x l o = record { need = 1; reads = go x }
-  where
-    go : (x : Literal) (n : ℕ) (us : List Token) → 1 ≤ n → AfterFactor us → p_f n (spelling.factor keep (literal x) l o ++ us) ≡ took (literal x) us
-    go (integer k p) zero us h f = absurd (omega arith)
-    go (integer k p) (suc m) us h f = refl
-    go (letter k p) zero us h f = absurd (omega arith)
-    go (letter k p) (suc m) us h f = refl
+literal_reads (integer k p) l o = deeper 0 (λ m us h f. refl)
+literal_reads (letter k p) l o = deeper 0 (λ m us h f. refl)
 
 new_reads : (p : At) (x : Name) (q : At) (e : Expr) (r : At) (l o : ℕ) → Reads p_e (spelling.expr keep e (suc l)) e AfterExpr → Reads p_f (spelling.factor keep (new p x q e r) l o) (new p x q e r) AfterFactor
 new_reads p x q e r l o s = deeper s.need (λ m us h f.
