@@ -1,5 +1,7 @@
 -- The code of each form is as long as its size says.
-use Rattle.std.proofs.Common.{◌≡◌, ℕ, ◌+◌, List, [], ◌∷◌, ◌++◌, length, Some, None, Option, refl, ap, ◌∙◌, append_assoc, append-nil, arith, length-append}
+use Rattle.std.proofs.Common.{◌≡◌, ℕ, ◌+◌, List, [], ◌∷◌, ◌++◌, length, Some, None, Option, sym, refl, ap, ◌∙◌, append-nil, arith, length-append}
+use Rattle.std.proofs.lemmas.Grind.{flat_map-append}
+use Rattle.std.proofs.lemmas.List.Sums.{sum_by-cons}
 use Rattle.words.specs.declared.arithmetic.Relation.{Relation}
 use Rattle.words.specs.declared.printing.Kind.{Kind}
 use Rattle.instructions.specs.declared.Instruction.{Instruction}
@@ -13,17 +15,13 @@ use Rattle.code.specs.Objects.{bytes_of}
 use Rattle.code.specs.Laws.{CodeHasItsSize}
 
 infixr 20 ◌then◌
-pub bytes_append : (a b : List Line) → bytes_of (a ++ b) ≡ bytes_of a ++ bytes_of b
-bytes_append [] b = refl
-bytes_append (l ∷ ls) b = ap (λ z. encode l.instruction ++ z) (bytes_append ls b) ∙ (rw append_assoc refl)
-
 -- code of so many bytes
 pub record Long (ls : List Line) (n : ℕ) : Type 0 where
   pub is : length (bytes_of ls) ≡ n
 
 -- one piece behind the other
 ◌then◌ : {a b : List Line} {m n : ℕ} → Long a m → Long b n → Long (a ++ b) (m + n)
-◌then◌ {a} {b} x y = record { is = ap length (bytes_append a b) ∙ omega (arith, length-append (bytes_of a) (bytes_of b), x.is, y.is) }
+◌then◌ {a} {b} x y = record { is = ap length (flat_map-append (λ l. encode l.instruction) a b) ∙ omega (arith, length-append (bytes_of a) (bytes_of b), x.is, y.is) }
 
 one : {i : Instruction} {h : ℕ} → Long (line i h) (size i)
 one {i} = record { is = ap length (append-nil (encode i)) }
@@ -114,7 +112,7 @@ module _ (entry : ℕ → ℕ) where
 
   pub methods_size : (ms : List Method) (pc : ℕ) → Long (code_methods entry ms pc) (size_methods ms)
   methods_size [] pc = none
-  methods_size (m ∷ ms) pc = method_size m pc then methods_size ms _
+  methods_size (m ∷ ms) pc = as_sum (method_size m pc then methods_size ms _) (sym (sum_by-cons size_method m ms))
 
 pub code_has_its_size : CodeHasItsSize
 code_has_its_size p = (methods_size (entry_of p.methods) p.methods 0).is

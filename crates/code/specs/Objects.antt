@@ -1,5 +1,6 @@
 -- The object that a program is translated to, and refusals 9 to 12.
-use Rattle.std.specs.Prelude.{◌≡◌, ℕ, ◌+◌, Bool, false, cond, ◌||◌, List, [], ◌∷◌, ◌++◌, length, Some, None, Ok, Err, Option, Result, nat_lt}
+use Rattle.std.specs.Prelude.{◌≡◌, ℕ, ◌+◌, Bool, cond, List, [], ◌∷◌, length, Some, None, Ok, Err, Option, Result, nat_lt}
+use Rattle.std.specs.List.{flat_map, list_any}
 use Rattle.std.specs.Option.{option_or}
 use Rattle.outcomes.specs.declared.Fault.{Fault}
 use Rattle.outcomes.specs.declared.Position.{Position}
@@ -11,8 +12,7 @@ use Rattle.code.specs.Encoding.{encode}
 use Rattle.code.specs.Patterns.{Line, entry_of, size_method, size_methods, code_method, lines_of}
 
 abbrev pub bytes_of : List Line → List ℕ
-bytes_of [] = []
-bytes_of (l ∷ ls) = encode l.instruction ++ bytes_of ls
+bytes_of ls = flat_map (λ l. encode l.instruction) ls
 
 -- the main method's first byte
 abbrev pub main_entry : Program → ℕ → ℕ
@@ -23,8 +23,7 @@ object_of p m = record { code = bytes_of (lines_of p); globals = length p.global
 
 -- more than 32 operands are held before some instruction
 abbrev pub high : List Line → Bool
-high [] = false
-high (l ∷ ls) = nat_lt 32 l.height || high ls
+high ls = list_any (λ l. nat_lt 32 l.height) ls
 
 abbrev pub fault : Refusal → Position → Fault
 fault r p = record { refusal = r; position = p }

@@ -1,5 +1,6 @@
 -- The code of a core program, form by form, with the operand height before each instruction: how many operands the method holds there.
-use Rattle.std.specs.Prelude.{ℕ, zero, suc, ◌+◌, List, [], ◌∷◌, ◌++◌, length, ℤ, pos, negsuc, ◌-ℤ◌, Some, None, Option}
+use Rattle.std.specs.Prelude.{ℕ, suc, ◌+◌, List, [], ◌∷◌, ◌++◌, length, take, ℤ, pos, negsuc, ◌-ℤ◌, Some, None, Option}
+use Rattle.std.specs.List.{sum_by}
 use Rattle.words.specs.declared.arithmetic.Operator.TheVariants.{Add, Subtract}
 use Rattle.words.specs.declared.arithmetic.Relation.{Relation}
 use Rattle.words.specs.declared.arithmetic.Relation.TheVariants.{Equal, NotEqual, Less, LessOrEqual, Greater, GreaterOrEqual}
@@ -209,13 +210,11 @@ size_method m = 3 + size_as m.body + 2
 
 -- methods stand in the order of the text
 abbrev pub size_methods : List Method → ℕ
-size_methods [] = 0
-size_methods (m ∷ ms) = size_method m + size_methods ms
+size_methods ms = sum_by size_method ms
 
+-- a method begins behind the code of those before it
 abbrev pub entry_of : List Method → ℕ → ℕ
-entry_of [] n = 0
-entry_of (m ∷ ms) zero = 0
-entry_of (m ∷ ms) (suc n) = size_method m + entry_of ms n
+entry_of ms n = size_methods (take n ms)
 
 abbrev pub code_methods : (ℕ → ℕ) → List Method → ℕ → List Line
 code_methods entry [] pc = []

@@ -1,6 +1,7 @@
 -- The names of an item, in the order of the text: which are unknown, repeated or too many; and the refusal that an item gets.
-use Rattle.std.specs.Prelude.{ℕ, ◌+◌, Bool, false, cond, ◌||◌, List, [], ◌∷◌, ◌++◌, Some, None, Ok, Err, Option, Result, nat_le}
-use Rattle.std.specs.Option.{option_or}
+use Rattle.std.specs.Prelude.{ℕ, ◌+◌, Bool, cond, ◌||◌, List, [], ◌∷◌, ◌++◌, map, Some, None, Err, Option, Result, nat_le}
+use Rattle.std.specs.List.{list_any}
+use Rattle.std.specs.Option.{ok_or, option_or}
 use Rattle.std.specs.Str.{bytes_eq}
 use Rattle.outcomes.specs.declared.Fault.{Fault}
 use Rattle.outcomes.specs.declared.Position.{Position}
@@ -8,7 +9,8 @@ use Rattle.outcomes.specs.declared.Refusal.{Refusal}
 use Rattle.outcomes.specs.declared.Refusal.TheVariants.{UnfitName, ContextRule, TooManyNames}
 use Rattle.words.specs.declared.printing.Kind.{Kind}
 use Rattle.program.specs.declared.Shape.{Shape}
-use Rattle.syntax.specs.Trees.{At, Name, Expr, positive, negative, Terms, no_terms, and_term, Term, product, Factors, no_factors, and_factor, Factor, value, call, literal, new, parenthesis, Designator, whole, element, Arguments, no_arguments, arguments, More, no_more, and_argument, Comparison, Conjunction, single, both, Condition, only, either, Declared, scalar, array, Declareds, last, and, Parameter, Parameters, no_parameters, parameters}
+use Rattle.program.specs.declared.Shape.TheVariants.{Scalar, Array}
+use Rattle.syntax.specs.Trees.{Name, Expr, positive, negative, Terms, no_terms, and_term, Term, product, Factors, no_factors, and_factor, Factor, value, call, literal, new, parenthesis, Designator, whole, element, Arguments, no_arguments, arguments, More, no_more, and_argument, Comparison, Conjunction, single, both, Condition, only, either, Declared, scalar, array, Declareds, last, and, Parameter, Parameters, no_parameters, parameters}
 use Rattle.context.specs.Scopes.{Entry, Scope, predeclared}
 
 abbrev mutual
@@ -62,36 +64,28 @@ name_of (scalar x) = x
 name_of (array x p q) = x
 
 abbrev pub shape_of : Kind → Declared → Shape
-shape_of k (scalar x) = record { kind = k; dimension = 0 }
-shape_of k (array x p q) = record { kind = k; dimension = 1 }
+shape_of k (scalar x) = Scalar k
+shape_of k (array x p q) = Array k
 
 abbrev pub each : Declareds → List Declared
 each (last d) = d ∷ []
 each (and d p ds) = d ∷ each ds
 
 abbrev pub names_of : List Declared → List Name
-names_of [] = []
-names_of (d ∷ ds) = name_of d ∷ names_of ds
-
-abbrev pub others : List (At × Parameter) → List Parameter
-others [] = []
-others (x ∷ xs) = x.1 ∷ others xs
+names_of ds = map name_of ds
 
 abbrev pub each_parameter : Parameters → List Parameter
 each_parameter no_parameters = []
-each_parameter (parameters x xs) = x ∷ others xs
+each_parameter (parameters x xs) = x ∷ map (λ y. y.1) xs
 
 abbrev pub parameter_names : List Parameter → List Name
-parameter_names [] = []
-parameter_names (x ∷ xs) = name_of x.declared ∷ parameter_names xs
+parameter_names xs = map (λ x. name_of x.declared) xs
 
 abbrev pub texts : List Entry → List (List ℕ)
-texts [] = []
-texts (e ∷ es) = e.text ∷ texts es
+texts es = map (λ e. e.text) es
 
 abbrev pub has : List (List ℕ) → List ℕ → Bool
-has [] w = false
-has (v ∷ vs) w = bytes_eq v w || has vs w
+has vs w = list_any (λ v. bytes_eq v w) vs
 
 -- all names that can be used
 abbrev pub visible : Scope → List (List ℕ)
@@ -127,20 +121,13 @@ abbrev pub past_local : ℕ → ℕ → List Name → Option Position
 past_local outer n [] = None
 past_local outer n (x ∷ xs) = cond (nat_le 255 n || nat_le 512 (outer + n)) (Some x.position) (past_local outer (n + 1) xs)
 
-abbrev pub refuse : {A : Type 0} → Refusal → Position → Result A Fault
-refuse r p = Err (record { refusal = r; position = p })
-
 abbrev pub unless : {A : Type 0} → Refusal → Option Position → Result A Fault → Result A Fault
 unless r None x = x
-unless r (Some p) x = refuse r p
-
-abbrev pub lawful : {A : Type 0} → Position → Option A → Result A Fault
-lawful first None = refuse ContextRule first
-lawful first (Some a) = Ok a
+unless r (Some p) x = Err (record { refusal = r; position = p })
 
 -- an item: 6 at the first name that is unfit, else 8 at the first name past a limit, else 7 at the first token
 abbrev pub judged : {A : Type 0} → Option Position → Option Position → Position → Option A → Result A Fault
-judged unfit past first a = unless UnfitName unfit (unless TooManyNames past (lawful first a))
+judged unfit past first a = unless UnfitName unfit (unless TooManyNames past (ok_or a (record { refusal = ContextRule; position = first })))
 
 -- an item that declares nothing
 abbrev pub using_names : {A : Type 0} → Scope → List Name → Position → Option A → Result A Fault

@@ -1,10 +1,11 @@
 -- Whole programs: items are judged in the order of the text, and the first that is not legal decides.
-use Rattle.std.specs.Prelude.{ℕ, ◌+◌, Bool, true, false, List, [], ◌∷◌, ◌++◌, length, Some, None, Ok, Err, codes, Option, Result}
-use Rattle.std.specs.Option.{option_or}
+use Rattle.std.specs.Prelude.{ℕ, ◌+◌, Bool, true, false, List, [], ◌∷◌, ◌++◌, map, length, Some, None, Ok, Err, codes, Option, Result}
+use Rattle.std.specs.Option.{option_map, option_or}
 use Rattle.outcomes.specs.declared.Fault.{Fault}
 use Rattle.outcomes.specs.declared.Position.{Position}
 use Rattle.words.specs.declared.printing.Kind.{Kind}
 use Rattle.program.specs.declared.Shape.{Shape}
+use Rattle.program.specs.declared.Shape.TheVariants.{Scalar}
 use Rattle.program.specs.declared.Variable.TheVariants.{Local, Global}
 use Rattle.program.specs.Core as core
 use Rattle.syntax.specs.Trees.{Name, Literal, integer, letter, Designator, whole, element, Statement, assign, invoke, step, when, choose, while, break, return, give, read, print, print_wide, block, empty, Statements, none, and_then, Declared, Variables, Declaration, constant, variables, Parameter, ResultType, void, typed, Method, Program}
@@ -74,8 +75,7 @@ enter_locals k [] S = S
 enter_locals k (d ∷ ds) S = enter_locals k ds (with_local S (name_of d).text (scope.variable (Local (length S.local)) (shape_of k d)))
 
 abbrev pub shapes_of : Kind → List Declared → List Shape
-shapes_of k [] = []
-shapes_of k (d ∷ ds) = shape_of k d ∷ shapes_of k ds
+shapes_of k ds = map (shape_of k) ds
 
 pub record Locals : Type 0 where
   pub scope : Scope
@@ -90,7 +90,7 @@ local_variables (v ∷ vs) S = do
 
 abbrev pub result_of : ResultType → Scope → Option (Option Kind)
 result_of (void p) S = Some None
-result_of (typed x) S = typing.◌>>=◌ (kind_of S x) λ k. Some (Some k)
+result_of (typed x) S = option_map Some (kind_of S x)
 
 abbrev pub result_names : ResultType → List Name
 result_names (void p) = []
@@ -156,7 +156,7 @@ enter_globals k (d ∷ ds) G =
 
 -- a constant has the type of its literal
 abbrev pub constant_of : Name → Literal → Scope → Option Thing
-constant_of x l S = typing.◌>>=◌ (kind_of S x) λ k. typing.if (assignable (scope.scalar k) (literally l).type) (scope.constant (literally l).type (value_in l))
+constant_of x l S = typing.◌>>=◌ (kind_of S x) λ k. typing.if (assignable (Scalar k) (literally l).type) (scope.constant (literally l).type (value_in l))
   where
     value_in : Literal → ℕ
     value_in (integer n p) = n

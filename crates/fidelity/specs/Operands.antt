@@ -1,5 +1,6 @@
 -- Operands by call, and where statements begin and end in the code.
 use Rattle.std.specs.Prelude.{◌≡◌, ℕ, zero, suc, ◌+◌, ◌-◌, ◌≤◌, List, [], ◌∷◌, ◌++◌, Some, None, Option}
+use Rattle.std.specs.List.{All}
 use Rattle.instructions.specs.declared.Decoded.{Decoded}
 use Rattle.instructions.specs.declared.Instruction.{Instruction}
 use Rattle.instructions.specs.declared.Instruction.TheVariants.{Load, Store, GetStatic, PutStatic, Const, Binary, Negate, Increment, NewArray, ArrayLoad, ArrayStore, ArrayLength, Pop, Dup, Dup2, Jump, JumpIf, Call, Return, Enter, Exit, Read, Print, Trap}
@@ -95,8 +96,7 @@ statement_boundaries (m ∷ ms) pc = boundaries_in m.body (pc + 3) ++ statement_
 
 -- every call holds at most 32 operands
 abbrev pub Few : List ℕ → Type 0
-Few [] = Unit {0}
-Few (h ∷ hs) = (h ≤ 32) × Few hs
+Few hs = All (λ h. h ≤ 32) hs
 
 -- the running call holds none
 abbrev pub NoneHeld : List ℕ → Type 0

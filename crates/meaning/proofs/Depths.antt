@@ -1,28 +1,21 @@
 -- What is known at a depth stays known at a greater one.
 use Rattle.std.proofs.Common.{ℕ, zero, suc, ◌+◌, ◌≤◌, Bool, true, false, leb, List, length, ℤ, pos, Some, None, Option, arith}
+use Rattle.std.specs.List.{slice_get}
 use Rattle.words.specs.declared.printing.Kind.{Kind}
 use Rattle.words.specs.Arithmetic as words
 use Rattle.words.specs.Bytes.{kept}
 use Rattle.program.specs.declared.Direction.{Direction}
 use Rattle.program.specs.declared.Variable.{Variable}
 use Rattle.program.specs.declared.Variable.TheVariants.{Local, Global}
-use Rattle.program.specs.Core.{Value, constant, load, load_element, negate, binary, new_array, length_of, convert, result, Values, no_values, and_value, Comparison, compare, Conjunction, single, both, Condition, only, either, Target, variable, element, Action, assign, step, read, print, invoke, discard, when, choose, while, break, return, give, block, nothing, Actions, no_actions, and_then, Method, at}
+use Rattle.program.specs.Core.{Value, constant, load, load_element, negate, binary, new_array, length_of, convert, result, Values, no_values, and_value, Comparison, compare, Conjunction, single, both, Condition, only, either, Target, variable, element, Action, assign, step, read, print, invoke, discard, when, choose, while, break, return, give, block, nothing, Actions, no_actions, and_then, Method}
 use Rattle.meaning.specs.World.{World, Limits, done, Work, ◌>>=◌}
-use Rattle.meaning.specs.Evaluation.{Calls, Site, get, evaluate, evaluate_all, holds, unless, provided, holds_all, satisfied, Flow, goes, broke, returned, put, store, stepped, step_by_one, read_word, choice, on, again, loop, perform, perform_all, at_end, left, frame, enter, calls}
+use Rattle.meaning.specs.Evaluation.{Calls, Site, get, evaluate, evaluate_all, holds, holds_all, satisfied, Flow, goes, broke, returned, put, store, stepped, step_by_one, read_word, choice, on, again, loop, perform, perform_all, at_end, left, frame, enter, calls}
 use Rattle.meaning.proofs.Logs.{Before, same}
 use Rattle.meaning.proofs.Growing.{log_of, Follows, cut_grows, itself, done_follows, fails_follows, then_follows, choice_follows, itself_follows}
 use Rattle.meaning.proofs.Operations.{take_word_follows, write_follows, global_follows, set_global_follows, computed_follows, get_element_follows, set_element_follows, array_length_follows, new_follows}
 
 abbrev CallsFollow : Calls → Calls → Type 0
 CallsFollow f g = (m : ℕ) (vs : List ℤ) (q u : ℕ) → Follows (f m vs q u) (g m vs q u)
-
-unless_follows : (b : Bool) {x y : Work Bool} → Follows x y → Follows (unless b x) (unless b y)
-unless_follows true h = done_follows true
-unless_follows false h = h
-
-provided_follows : (b : Bool) {x y : Work Bool} → Follows x y → Follows (provided b x) (provided b y)
-provided_follows true h = h
-provided_follows false h = done_follows false
 
 on_follows : (f : Flow) {x y : List ℤ → Work Flow} → ((l : List ℤ) → Follows (x l) (y l)) → Follows (on f x) (on f y)
 on_follows (goes l) h = h l
@@ -79,11 +72,11 @@ module _ (L : Limits) (f g : Calls) (h : CallsFollow f g) where
 
   holds_all_follows : (k : Conjunction) (l : List ℤ) (q u : ℕ) → Follows (holds_all k (site L f l q u)) (holds_all k (site L g l q u))
   holds_all_follows (single c) l q u = holds_follows c l q u
-  holds_all_follows (both c k) l q u = then_follows (holds_follows c l q u) λ b. provided_follows b (holds_all_follows k l q u)
+  holds_all_follows (both c k) l q u = then_follows (holds_follows c l q u) λ b. choice_follows b (holds_all_follows k l q u) (done_follows false)
 
   satisfied_follows : (c : Condition) (l : List ℤ) (q u : ℕ) → Follows (satisfied c (site L f l q u)) (satisfied c (site L g l q u))
   satisfied_follows (only k) l q u = holds_all_follows k l q u
-  satisfied_follows (either k c) l q u = then_follows (holds_all_follows k l q u) λ b. unless_follows b (satisfied_follows c l q u)
+  satisfied_follows (either k c) l q u = then_follows (holds_all_follows k l q u) λ b. choice_follows b (done_follows true) (satisfied_follows c l q u)
 
   put_follows : (x : Variable) (v : ℤ) (l : List ℤ) (q u : ℕ) → Follows (put x v (site L f l q u)) (put x v (site L g l q u))
   put_follows (Local n) v l q u = done_follows _
@@ -146,9 +139,9 @@ module _ (L : Limits) (ms : List Method) where
   calls_more : (k m : ℕ) (vs : List ℤ) (q u : ℕ) (w : World) → Before w.log (log_of (calls L ms k m vs q u w))
   calls_more zero m vs q u w = same
   calls_more (suc k) m vs q u w =
-      (enter_follows L (calls L ms k) (calls L ms k) (λ n xs p v z. itself (calls L ms k n xs p v z) (calls_more k n xs p v z)) (at ms m) k k (omega arith) vs q u w).more
+      (enter_follows L (calls L ms k) (calls L ms k) (λ n xs p v z. itself (calls L ms k n xs p v z) (calls_more k n xs p v z)) (slice_get ms m) k k (omega arith) vs q u w).more
 
   pub calls_follow : (k j : ℕ) → k ≤ j → CallsFollow (calls L ms k) (calls L ms j)
   calls_follow zero j h m vs q u w = cut_grows (calls_more j m vs q u w)
   calls_follow (suc k) zero h m vs q u w = absurd (omega arith)
-  calls_follow (suc k) (suc j) h m vs q u w = enter_follows L (calls L ms k) (calls L ms j) (calls_follow k j (omega arith)) (at ms m) k j (omega arith) vs q u w
+  calls_follow (suc k) (suc j) h m vs q u w = enter_follows L (calls L ms k) (calls L ms j) (calls_follow k j (omega arith)) (slice_get ms m) k j (omega arith) vs q u w

@@ -66,7 +66,7 @@ same_event i e f a h g = same_at h.later g.later h.earlier g.earlier e f (sym h.
 
 -- a number among plain events is not that of a verdict
 pub no_verdict : (es later earlier : List Event) (e : Event) → Plain es → es ≡ later ++ (e ∷ earlier) → plain e
-no_verdict [] [] earlier e p h = absurd (let z : ◌≡◌ {A = ℕ} 0 1 = cc in omega arith)
-no_verdict [] (x ∷ later) earlier e p h = absurd (let z : ◌≡◌ {A = ℕ} 0 1 = cc in omega arith)
+no_verdict [] [] earlier e p h = absurd cc
+no_verdict [] (x ∷ later) earlier e p h = absurd cc
 no_verdict (x ∷ es) [] earlier e p h = let t : x ≡ e = cc in subst plain t p.0
 no_verdict (x ∷ es) (y ∷ later) earlier e p h = let t : es ≡ later ++ (e ∷ earlier) = cc in no_verdict es later earlier e p.1 t

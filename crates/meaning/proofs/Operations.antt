@@ -1,7 +1,8 @@
 -- The operations on the world keep the events that there are.
 use Rattle.std.proofs.Common.{ℕ, zero, suc, ◌+◌, Bool, true, false, cond, ltb, leb, List, [], ◌∷◌, length, ℤ, pos, negsuc, Some, None, Option}
 use Rattle.words.specs.declared.printing.Kind.{Kind}
-use Rattle.meaning.specs.World.{took, wrote, Array, World, Limits, done, Work, fails, takes, take_word, write, global, set_global, find, found, array, same_kind, array_of, index, get_element, set_element, array_length, new, words_of, words_for}
+use Rattle.program.specs.Core.{same_kind}
+use Rattle.meaning.specs.World.{took, wrote, Array, World, Limits, done, Work, fails, takes, take_word, write, global, set_global, find, found, array, array_of, index, get_element, set_element, array_length, new, words_of, words_for}
 use Rattle.meaning.specs.Evaluation.{computed}
 use Rattle.meaning.proofs.Logs.{Before, same, one_more}
 use Rattle.meaning.proofs.Growing.{Grows, Follows, done_grows, stop_grows, done_follows, fails_follows, cond_follows}

@@ -1,5 +1,6 @@
 -- What each form of a program does. A loop is followed for k turns and calls to a depth of k: what lies beyond is cut off.
 use Rattle.std.specs.Prelude.{ℕ, zero, suc, ◌+◌, Bool, true, false, List, [], ◌∷◌, ◌++◌, length, replicate, ℤ, pos, Some, None, Option, nat_le, slice_index_or, slice_set}
+use Rattle.std.specs.List.{slice_get}
 use Rattle.outcomes.specs.declared.Verdict.TheVariants.{MissingReturn, DivisionByZero, CallStackExhausted, OperandStackExhausted}
 use Rattle.words.specs.declared.arithmetic.Operator.{Operator}
 use Rattle.words.specs.declared.arithmetic.Operator.TheVariants.{Add, Subtract}
@@ -11,7 +12,7 @@ use Rattle.program.specs.declared.Direction.{Direction}
 use Rattle.program.specs.declared.Direction.TheVariants.{Up, Down}
 use Rattle.program.specs.declared.Variable.{Variable}
 use Rattle.program.specs.declared.Variable.TheVariants.{Local, Global}
-use Rattle.program.specs.Core.{Value, constant, load, load_element, negate, binary, new_array, length_of, convert, result, Values, no_values, and_value, Comparison, compare, Conjunction, single, both, Condition, only, either, Target, variable, element, Action, assign, step, read, print, invoke, discard, when, choose, while, break, return, give, block, nothing, Actions, no_actions, and_then, Method, at}
+use Rattle.program.specs.Core.{Value, constant, load, load_element, negate, binary, new_array, length_of, convert, result, Values, no_values, and_value, Comparison, compare, Conjunction, single, both, Condition, only, either, Target, variable, element, Action, assign, step, read, print, invoke, discard, when, choose, while, break, return, give, block, nothing, Actions, no_actions, and_then, Method}
 use Rattle.meaning.specs.World.{Limits, done, cut, Work, ◌>>=◌, fails, take_word, write, global, set_global, get_element, set_element, array_length, new}
 
 -- what a call of a method does, by its number: on the arguments, the values pending in all callers, and the words of all calls
@@ -89,27 +90,23 @@ holds (compare r v u) s = do
   b ← evaluate u (holding 1 s)
   done (words.holds r a b)
 
-abbrev pub unless : Bool → Work Bool → Work Bool
-unless true go = done true
-unless false go = go
-
-abbrev pub provided : Bool → Work Bool → Work Bool
-provided true go = go
-provided false go = done false
+abbrev pub choice : {A : Type 0} → Bool → Work A → Work A → Work A
+choice true go other = go
+choice false go other = other
 
 -- && stops at the first comparison that does not hold
 abbrev pub holds_all : Conjunction → Site → Work Bool
 holds_all (single c) s = holds c s
 holds_all (both c k) s = do
   b ← holds c s
-  provided b (holds_all k s)
+  choice b (holds_all k s) (done false)
 
 -- || stops at the first term that holds
 abbrev pub satisfied : Condition → Site → Work Bool
 satisfied (only k) s = holds_all k s
 satisfied (either k c) s = do
   b ← holds_all k s
-  unless b (satisfied c s)
+  choice b (done true) (satisfied c s)
 
 -- how a statement is left: it goes on with these locals, breaks out of a loop, or returns from its method
 pub data Flow : Type 0 where
@@ -157,10 +154,6 @@ abbrev pub read_word : Kind → Site → Work ℤ
 read_word k s = do
   v ← take_word
   done (kept k v)
-
-abbrev pub choice : {A : Type 0} → Bool → Work A → Work A → Work A
-choice true go other = go
-choice false go other = other
 
 -- statements go in order
 abbrev pub on : Flow → (List ℤ → Work Flow) → Work Flow
@@ -241,4 +234,4 @@ enter (Some m) L k f vs q u =
 
 abbrev pub calls : Limits → List Method → ℕ → Calls
 calls L ms zero m vs q u = cut
-calls L ms (suc k) m vs q u = enter (at ms m) L k (calls L ms k) vs q u
+calls L ms (suc k) m vs q u = enter (slice_get ms m) L k (calls L ms k) vs q u

@@ -1,10 +1,11 @@
 -- What a program touches: the input, the events so far, the globals and the arrays. And how working something out can come to an end.
-use Rattle.std.specs.Prelude.{ℕ, zero, suc, ◌+◌, ◌/◌, Bool, true, false, cond, List, [], ◌∷◌, length, replicate, ℤ, pos, negsuc, Some, None, Option, ◌==◌, nat_le, nat_lt, slice_index_or, slice_set}
+use Rattle.std.specs.Prelude.{ℕ, zero, suc, ◌+◌, ◌/◌, cond, List, [], ◌∷◌, length, replicate, ℤ, pos, negsuc, Some, None, Option, ◌==◌, nat_le, nat_lt, slice_index_or, slice_set}
 use Rattle.outcomes.specs.declared.Verdict.{Verdict}
 use Rattle.outcomes.specs.declared.Verdict.TheVariants.{NullReference, IndexOutOfRange, NegativeLength, HeapExhausted}
 use Rattle.words.specs.declared.printing.Kind.{Kind}
 use Rattle.words.specs.declared.printing.Kind.TheVariants.{Int, Char}
 use Rattle.words.specs.Bytes.{kept}
+use Rattle.program.specs.Core.{same_kind}
 
 infixl 20 ◌>>=◌
 pub data Event : Type 0 where
@@ -113,12 +114,6 @@ abbrev pub array : {A : Type 0} → Limits → ℤ → (Array → Work A) → Wo
 array L (pos zero) go w = fails NullReference w
 array L (pos (suc r)) go w = found L (find w.arrays (suc r)) go w
 array L (negsuc n) go w = fails L.stray w
-
-abbrev pub same_kind : Kind → Kind → Bool
-same_kind Int Int = true
-same_kind Int Char = false
-same_kind Char Int = false
-same_kind Char Char = true
 
 abbrev pub array_of : {A : Type 0} → Limits → Kind → ℤ → (Array → Work A) → Work A
 array_of L k r go = array L r λ a. cond (same_kind k a.kind) (go a) (fails L.stray)

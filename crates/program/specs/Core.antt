@@ -1,11 +1,13 @@
 -- The core program: names are numbers, types are decided, constants are their values. Nothing is computed ahead.
-use Rattle.std.specs.Prelude.{ℕ, zero, suc, ◌+◌, List, [], ◌∷◌, length, Some, None, Option}
+use Rattle.std.specs.Prelude.{ℕ, suc, ◌+◌, Bool, true, false, List, length, Option}
 use Rattle.outcomes.specs.declared.Position.{Position}
 use Rattle.words.specs.declared.arithmetic.Operator.{Operator}
 use Rattle.words.specs.declared.arithmetic.Relation.{Relation}
 use Rattle.words.specs.declared.printing.Kind.{Kind}
+use Rattle.words.specs.declared.printing.Kind.TheVariants.{Int, Char}
 use Rattle.program.specs.declared.Direction.{Direction}
 use Rattle.program.specs.declared.Shape.{Shape}
+use Rattle.program.specs.declared.Shape.TheVariants.{Scalar, Array}
 use Rattle.program.specs.declared.Variable.{Variable}
 
 mutual
@@ -94,8 +96,12 @@ count (and_value v vs) = suc (count vs)
 abbrev pub variable_count : Method → ℕ
 variable_count m = length m.parameters + length m.locals
 
--- the element at a place of a list, if there is one
-abbrev pub at : {A : Type 0} → List A → ℕ → Option A
-at [] n = None
-at (x ∷ xs) zero = Some x
-at (x ∷ xs) (suc n) = at xs n
+abbrev pub same_kind : Kind → Kind → Bool
+same_kind Int Int = true
+same_kind Int Char = false
+same_kind Char Int = false
+same_kind Char Char = true
+
+abbrev pub is_array : Shape → Bool
+is_array (Scalar k) = false
+is_array (Array k) = true

@@ -1,10 +1,14 @@
 -- The flat list of a program: its operations in the order of their code.
-use Rattle.std.specs.Prelude.{Bool, true, false, List, [], ◌∷◌, ◌++◌, length, Some, None, Option}
-use Rattle.words.specs.declared.printing.Kind.{Kind}
+use Rattle.std.specs.Prelude.{ℕ, List, [], ◌∷◌, ◌++◌, map, length}
+use Rattle.program.specs.declared.operation.Call.{Call}
 use Rattle.program.specs.declared.operation.Head.{Head}
 use Rattle.program.specs.declared.operation.Operation.{Operation}
 use Rattle.program.specs.declared.operation.Operation.TheVariants as op
 use Rattle.program.specs.Core.{Value, constant, load, load_element, negate, binary, new_array, length_of, convert, result, Values, no_values, and_value, Comparison, compare, Conjunction, single, both, Condition, only, either, Target, variable, element, Action, assign, step, read, print, invoke, discard, when, choose, while, break, return, give, block, nothing, Actions, no_actions, and_then, Method, count, variable_count}
+
+-- a call, behind its arguments
+abbrev pub call : ℕ → Values → Call
+call m vs = record { method = m; arguments = count vs }
 
 abbrev mutual
   pub flat_v : Value → List Operation
@@ -16,7 +20,7 @@ abbrev mutual
   flat_v (new_array k v) = flat_v v ++ op.NewArray k ∷ []
   flat_v (length_of v) = flat_v v ++ op.Length ∷ []
   flat_v (convert k v) = flat_v v ++ op.Convert k ∷ []
-  flat_v (result m vs) = flat_vs vs ++ op.Result m (count vs) ∷ []
+  flat_v (result m vs) = flat_vs vs ++ op.Result (call m vs) ∷ []
 
   pub flat_vs : Values → List Operation
   flat_vs no_values = []
@@ -49,8 +53,8 @@ abbrev mutual
   flat_a (step d (element k x v)) = flat_before (element k x v) ++ op.StepElement d k ∷ []
   flat_a (read k t) = flat_before t ++ op.Read k ∷ (flat_store t ∷ [])
   flat_a (print k v n) = flat_v v ++ op.Print k n ∷ []
-  flat_a (invoke m vs) = flat_vs vs ++ op.Invoke m (count vs) ∷ []
-  flat_a (discard m vs) = flat_vs vs ++ op.Discard m (count vs) ∷ []
+  flat_a (invoke m vs) = flat_vs vs ++ op.Invoke (call m vs) ∷ []
+  flat_a (discard m vs) = flat_vs vs ++ op.Discard (call m vs) ∷ []
   flat_a (when c a) = flat_condition c ++ op.Then ∷ (flat_a a ++ op.EndIf ∷ [])
   flat_a (choose c a e) = flat_condition c ++ op.Then ∷ (flat_a a ++ op.Else ∷ (flat_a e ++ op.EndIf ∷ []))
   flat_a (while c a) = op.BeginWhile ∷ (flat_condition c ++ op.Do ∷ (flat_a a ++ op.EndWhile ∷ []))
@@ -69,13 +73,8 @@ abbrev pub flat_methods : List Method → List Operation
 flat_methods [] = []
 flat_methods (m ∷ ms) = flat_as m.body ++ op.EndMethod ∷ flat_methods ms
 
-abbrev pub has_result : Option Kind → Bool
-has_result None = false
-has_result (Some k) = true
-
 abbrev pub head_of : Method → Head
-head_of m = record { position = m.position; parameters = length m.parameters; variables = variable_count m; gives = has_result m.result }
+head_of m = record { position = m.position; parameters = length m.parameters; variables = variable_count m; result = m.result }
 
 abbrev pub heads_of : List Method → List Head
-heads_of [] = []
-heads_of (m ∷ ms) = head_of m ∷ heads_of ms
+heads_of ms = map head_of ms

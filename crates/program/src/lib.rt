@@ -11,22 +11,22 @@ pub mod operation;
 
 use words::printing::Kind;
 
-// Shape is the type of a variable: the kind of its elements, and how many indices lead to one: 0 or 1.
-#[derive(Clone, Copy)]
-pub struct Shape {
-    pub kind: Kind,
-    pub dimension: u8,
+// Shape is the type of a variable: a single value of a kind, or an array of them.
+#[derive(Clone, Copy, PartialEq, Eq, Debug)]
+pub enum Shape {
+    Scalar(Kind),
+    Array(Kind),
 }
 
 // Variable is a local of the present method or a global, by its number.
-#[derive(Clone, Copy)]
+#[derive(Clone, Copy, PartialEq, Eq, Debug)]
 pub enum Variable {
     Local(u8),
     Global(u16),
 }
 
 // Direction is that of a step by one.
-#[derive(Clone, Copy)]
+#[derive(Clone, Copy, PartialEq, Eq, Debug)]
 pub enum Direction {
     Up,
     Down,

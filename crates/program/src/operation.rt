@@ -3,8 +3,15 @@ use outcomes::Position;
 use words::arithmetic::{Operator, Relation};
 use words::printing::Kind;
 
+// Call is a call of a method, by its number, and how many arguments stand before it.
+#[derive(Clone, Copy, PartialEq, Eq, Debug)]
+pub struct Call {
+    pub method: u16,
+    pub arguments: u8,
+}
+
 // Operation is one element of the flat list of a program, in the order of its code.
-#[derive(Clone, Copy)]
+#[derive(Clone, Copy, PartialEq, Eq, Debug)]
 pub enum Operation {
     // A constant, a variable, or an element of the array and by the index before it.
     Constant(u32),
@@ -16,8 +23,8 @@ pub enum Operation {
     NewArray(Kind),
     Length,
     Convert(Kind),
-    // The result of a method, by its number and how many arguments stand before it.
-    Result(u16, u8),
+    // The result of a method.
+    Result(Call),
     // A comparison of the two values before it; And and Or stand between comparisons.
     Compare(Relation),
     And,
@@ -32,8 +39,8 @@ pub enum Operation {
     // A print of the value before it at a width.
     Print(Kind, u8),
     // A call of a method without a result, and one whose result is not used.
-    Invoke(u16, u8),
-    Discard(u16, u8),
+    Invoke(Call),
+    Discard(Call),
     // A condition stands before Then; behind it an action, perhaps Else and another, and EndIf.
     Then,
     Else,
@@ -54,13 +61,13 @@ pub enum Operation {
 }
 
 // Head is what is known of a method beside its body.
-#[derive(Clone, Copy)]
+#[derive(Clone, Copy, PartialEq, Eq, Debug)]
 pub struct Head {
     // position is that of the method's name.
     pub position: Position,
     pub parameters: u8,
     // variables counts parameters and locals.
     pub variables: u8,
-    // gives tells whether the method has a result.
-    pub gives: bool,
+    // result is the kind of what the method gives; a void method gives nothing.
+    pub result: Option<Kind>,
 }

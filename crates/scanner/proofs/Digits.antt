@@ -1,12 +1,18 @@
--- What digits are worth, one more at a time.
-use Rattle.std.proofs.Common.{ℕ, ◌+◌, ◌-◌, ◌*◌, ◌<◌, ◌≤◌, List, [], ◌∷◌, length, get_or, drop, arith}
-use Rattle.std.proofs.lemmas.List.{at_drop_more}
+-- What digits are worth, up to the largest word.
+use Rattle.std.proofs.Common.{◌≡◌, ℕ, ◌+◌, ◌-◌, ◌*◌, min, ltb, List, [], ◌∷◌, fold, refl, ap, ◌∙◌, arith}
+use Rattle.std.proofs.lemmas.Bool.Decides.{nat_tests}
 use Rattle.words.specs.Laws.{worth}
 
--- more digits are worth no less
-pub worth_grows : (n : ℕ) (ds : List ℕ) → n ≤ worth n ds
-worth_grows n [] = omega arith
-worth_grows n (d ∷ ds) = omega (arith, worth_grows (10 * n + (d - 48)) ds)
+-- one digit more, where 4294967295 stands for all that is larger
+abbrev pub capped : ℕ → ℕ → ℕ
+capped n d = min (min (n * 10) 4294967295 + (d - 48)) 4294967295
 
-pub worth_at : (n : ℕ) (ds : List ℕ) (i : ℕ) → i < length ds → 10 * n + (get_or ds i 0 - 48) ≤ worth n (drop i ds)
-worth_at n ds i l = omega (arith, at_drop_more (worth n) ds i 0 l, worth_grows (10 * n + (get_or ds i 0 - 48)) (drop (i + 1) ds))
+capped_more : (n d : ℕ) → capped (min n 4294967295) d ≡ min (10 * n + (d - 48)) 4294967295
+capped_more n d = omega arith
+
+pub capped_worth : (n : ℕ) (ds : List ℕ) → fold capped (min n 4294967295) ds ≡ min (worth n ds) 4294967295
+capped_worth n [] = refl
+capped_worth n (d ∷ ds) = ap (λ m. fold capped m ds) (capped_more n d) ∙ capped_worth (10 * n + (d - 48)) ds
+
+pub capped_test : (n m : ℕ) → m ≡ min n 4294967295 → ltb 2147483647 m ≡ ltb 2147483647 n
+capped_test n m e = grind (arith, nat_tests)

@@ -1,28 +1,12 @@
 -- Positions behind bytes.
-use Rattle.std.proofs.Common.{◌≡◌, ℕ, suc, ◌+◌, ◌<◌, ◌≤◌, Bool, true, false, cond, eqb, List, [], ◌∷◌, length, get_or, take, drop, sym, ap, ◌∙◌, arith}
-use Rattle.std.proofs.lemmas.List.{at_drop_more, length-drop, length-take-le}
-use Rattle.std.proofs.lemmas.Bool.{cond-true, cond-false, eq-eqb, ne_eqb}
+use Rattle.std.proofs.Common.{ℕ, suc, ◌+◌, ◌≤◌, Bool, true, false, cond, eqb, List, [], ◌∷◌, length, take, drop, arith}
+use Rattle.std.proofs.lemmas.List.{length-drop, length-take-le}
 use Rattle.outcomes.specs.declared.Position.{Position}
 use Rattle.syntax.specs.Tokens.{behind}
 use Rattle.scanner.specs.Steps.{Room}
 
 abbrev pub at : ℕ → ℕ → Position
 at line column = record { line = line; column = column }
-
--- the byte at i is passed
-pub behind_line :
-    (line column l : ℕ) (bs : List ℕ) (i : ℕ) → i < length bs → get_or bs i 0 ≡ 10 → l ≡ line + 1 → behind (at l 1) (drop (i + 1) bs) ≡ behind (at line column) (drop i bs)
-behind_line line column l bs i h e m =
-    ap (λ (n : ℕ). behind (at n 1) (drop (i + 1) bs)) m ∙
-    ap (λ (p : Position). behind p (drop (i + 1) bs)) (sym (cond-true (eqb (get_or bs i 0) 10) (at (line + 1) 1) (at line (column + 1)) (eq-eqb _ 10 e))) ∙
-    sym (at_drop_more (behind (at line column)) bs i 0 h)
-
-pub behind_column :
-    (line column k : ℕ) (bs : List ℕ) (i : ℕ) → i < length bs → (get_or bs i 0 ≡ 10 → ⊥) → k ≡ column + 1 → behind (at line k) (drop (i + 1) bs) ≡ behind (at line column) (drop i bs)
-behind_column line column k bs i h e m =
-    ap (λ (n : ℕ). behind (at line n) (drop (i + 1) bs)) m ∙
-    ap (λ (p : Position). behind p (drop (i + 1) bs)) (sym (cond-false (eqb (get_or bs i 0) 10) (at (line + 1) 1) (at line (column + 1)) (ne_eqb _ 10 e))) ∙
-    sym (at_drop_more (behind (at line column)) bs i 0 h)
 
 -- a byte adds at most 1 to the line and to the column
 record Near (p q : Position) (n : ℕ) : Type 0 where

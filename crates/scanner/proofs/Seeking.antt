@@ -1,14 +1,23 @@
 -- A table is searched from its front.
-use Rattle.std.proofs.Common.{◌≡◌, ℕ, ◌+◌, ◌<◌, true, false, List, length, get_or, drop, Some, ◌∙◌}
+use Rattle.std.proofs.Common.{◌≡◌, ℕ, Bool, true, false, cond, List, [], ◌∷◌, Some, None, Option, Bor, refl, ap, ◌∙◌}
+use Rattle.std.specs.List.{find}
+use Rattle.std.specs.Option.{option_map}
 use Rattle.std.specs.Str.{bytes_eq}
-use Rattle.std.proofs.lemmas.List.{at_drop_more}
-use Rattle.std.proofs.lemmas.Bool.{cond-true, cond-false}
 use Rattle.syntax.specs.Lexemes.{seek}
 use Rattle.scanner.specs.declared.symbols.Spelling.{Spelling}
 use Rattle.scanner.specs.Tables.{table}
 
-pub seek_here : (ss : List Spelling) (i : ℕ) (d : Spelling) (w : List ℕ) → i < length ss → bytes_eq (get_or ss i d).0.now w ≡ true → seek (table (drop i ss)) w ≡ Some (get_or ss i d).1
-seek_here ss i d w l h = at_drop_more (λ xs. seek (table xs) w) ss i d l ∙ cond-true _ _ _ h
+seek_first : (ss : List Spelling) (w : List ℕ) → option_map (λ s. s.1) (find (λ s. bytes_eq s.0.now w) ss) ≡ seek (table ss) w
+seek_first [] w = refl
+seek_first (s ∷ ss) w = first (bytes_eq s.0.now w) (seek_first ss w)
+  where
+    first :
+        (b : Bool) → option_map (λ s. s.1) (find (λ s. bytes_eq s.0.now w) ss) ≡ seek (table ss) w →
+        option_map (λ s. s.1) (cond b (Some s) (find (λ s. bytes_eq s.0.now w) ss)) ≡ cond b (Some s.1) (seek (table ss) w)
+    first true e = refl
+    first false e = e
 
-pub seek_on : (ss : List Spelling) (i : ℕ) (d : Spelling) (w : List ℕ) → i < length ss → bytes_eq (get_or ss i d).0.now w ≡ false → seek (table (drop i ss)) w ≡ seek (table (drop (i + 1) ss)) w
-seek_on ss i d w l h = at_drop_more (λ xs. seek (table xs) w) ss i d l ∙ cond-false _ _ _ h
+-- the symbol of the first spelling that is the word is what the table has for it
+pub seek_found : (ss : List Spelling) (w : List ℕ) (r : Option (Bor Spelling)) → option_map (λ x. x.now) r ≡ find (λ s. bytes_eq s.0.now w) ss → option_map (λ x. x.now.1) r ≡ seek (table ss) w
+seek_found ss w None e = ap (option_map (λ s. s.1)) e ∙ seek_first ss w
+seek_found ss w (Some x) e = ap (option_map (λ s. s.1)) e ∙ seek_first ss w

@@ -1,11 +1,9 @@
--- The classes of bytes of which long lexemes are made.
-use Rattle.std.specs.Prelude.{ℕ, Bool, not, ◌==◌}
-use Rattle.syntax.specs.Lexemes.{is_digit, is_name_part}
-use Rattle.scanner.specs.declared.bytes.ByteClass.{ByteClass}
-use Rattle.scanner.specs.declared.bytes.ByteClass.TheVariants.{NamePart, Digit, InLine}
+-- Fronts of bytes that pass a test.
+use Rattle.std.specs.Prelude.{◌≡◌, ℕ, ◌<◌, ◌≤◌, Bool, true, false, List, length, take, slice_index}
 
--- which bytes are of a class; a line feed alone is not in a line
-abbrev pub in_class : ByteClass → ℕ → Bool
-in_class NamePart b = is_name_part b
-in_class Digit b = is_digit b
-in_class InLine b = not (b == 10)
+-- the longest front of which each byte passes: the test says true of those in it, and false of the one behind it
+pub record IsRun (Says : ℕ → Bool → Type 0) (text run : List ℕ) : Type 0 where
+  pub within : length run ≤ length text
+  pub front : run ≡ take (length run) text
+  pub passes : (k : ℕ) → k < length run → Says (slice_index text k) true
+  pub ends : length run < length text → Says (slice_index text (length run)) false

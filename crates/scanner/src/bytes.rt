@@ -1,53 +1,28 @@
-ghost use Rattle.scanner.specs.Bytes.{in_class};
-ghost use Rattle.std.specs.List.{prefix_len};
-ghost use Rattle.syntax.specs.Lexemes.{is_letter, is_digit, is_blank};
-ghost use Rattle.std.specs.Prelude.{◌≡◌, take};
+ghost use Rattle.scanner.specs.Bytes.{IsRun};
+ghost use Rattle.std.specs.Prelude.{◌≡◌};
+ghost use Rattle.syntax.specs.Lexemes.{is_name_part, is_blank};
 
-// ByteClass is a class of bytes of which a lexeme can hold any number.
-#[derive(Clone, Copy)]
-pub(crate) enum ByteClass {
-    NamePart,
-    Digit,
-    InLine,
-}
-
-pub(crate) fn is_letter(byte: u8) -> bool
-    ensures { result ≡ is_letter byte }
+// is_name_part says whether a byte can go on with a name.
+pub(crate) fn is_name_part(byte: u8) -> bool
+    ensures { result ≡ is_name_part byte }
 {
-    (b'A' <= byte && byte <= b'Z') || (b'a' <= byte && byte <= b'z')
-}
-
-pub(crate) fn is_digit(byte: u8) -> bool
-    ensures { result ≡ is_digit byte }
-{
-    b'0' <= byte && byte <= b'9'
+    byte.is_ascii_alphanumeric() || byte == b'_'
 }
 
 pub(crate) fn is_blank(byte: u8) -> bool
     ensures { result ≡ is_blank byte }
 {
-    byte == b'\t' || byte == b'\n' || byte == b'\r' || byte == b' '
+    matches!(byte, b'\t' | b'\n' | b'\r' | b' ')
 }
 
-impl ByteClass {
-    fn holds(self, byte: u8) -> bool
-        ensures { result ≡ in_class self byte }
-    {
-        match self {
-            ByteClass::NamePart => is_letter(byte) || is_digit(byte) || byte == b'_',
-            ByteClass::Digit => is_digit(byte),
-            ByteClass::InLine => byte != b'\n',
-        }
-    }
-}
-
-// run is the longest front of the text that has only bytes of the class.
-pub(crate) fn run<'a>(text: &'a [u8], class: ByteClass) -> &'a [u8]
-    ensures { result.now ≡ take (prefix_len (in_class class) text.now) text.now }
+// run is the longest front of the text of which each byte passes a test.
+pub(crate) fn run<F: Fn(u8) -> bool>(text: &[u8], passes: F) -> &[u8]
+    requires { F.IsAlwaysCallable passes }
+    ensures { IsRun (F.post passes) text.now result.now }
 {
-    let mut size = 0;
-    while size < text.len() && class.holds(text[size]) {
-        size += 1;
-    }
+    let size = text
+        .iter()
+        .position(|&byte| !passes(byte))
+        .unwrap_or(text.len());
     &text[..size]
 }

@@ -4,7 +4,7 @@ ghost use Rattle.syntax.specs.Borrowed.{kind_meant};
 ghost use Rattle.syntax.specs.Lexemes.{is, comment, constant, escape, namelike, plain, quotation, token_of};
 ghost use Rattle.syntax.specs.Lexemes.{operator as operators};
 
-use crate::bytes::{ByteClass, is_blank, is_digit, is_letter, run};
+use crate::bytes::{is_blank, is_name_part, run};
 use crate::symbols::{keyword, operator};
 use syntax::token::TokenKind;
 
@@ -16,19 +16,19 @@ pub(crate) struct Lexeme<'a> {
 }
 
 // longest_lexeme is the longest lexeme that a text begins with.
-pub(crate) fn longest_lexeme<'a>(text: &'a [u8]) -> Option<Lexeme<'a>>
+pub(crate) fn longest_lexeme(text: &[u8]) -> Option<Lexeme<'_>>
     requires { 0 < length text.now }
     ensures { FoundOrNone text.now result }
 {
     let first = text[0];
-    if is_letter(first) {
-        let word = run(text, ByteClass::NamePart);
+    if first.is_ascii_alphabetic() {
+        let word = run(text, is_name_part);
         Some(Lexeme {
             size: word.len(),
             kind: Some(word_kind(word)),
         })
-    } else if is_digit(first) {
-        let digits = run(text, ByteClass::Digit);
+    } else if first.is_ascii_digit() {
+        let digits = run(text, |byte| byte.is_ascii_digit());
         Some(Lexeme {
             size: digits.len(),
             kind: Some(TokenKind::Number(digits)),
@@ -40,9 +40,10 @@ pub(crate) fn longest_lexeme<'a>(text: &'a [u8]) -> Option<Lexeme<'a>>
         })
     } else if first == b'\'' {
         longest_constant(text)
-    } else if begins_comment(text) {
+    } else if text.starts_with(b"//") {
+        let comment = run(text, |byte| byte != b'\n');
         Some(Lexeme {
-            size: run(text, ByteClass::InLine).len(),
+            size: comment.len(),
             kind: None,
         })
     } else {
@@ -50,104 +51,70 @@ pub(crate) fn longest_lexeme<'a>(text: &'a [u8]) -> Option<Lexeme<'a>>
     }
 }
 
-fn begins_comment(text: &[u8]) -> bool
-    ensures { result ≡ is comment (take 2 text.now) }
-{
-    text.len() > 1 && text[0] == b'/' && text[1] == b'/'
-}
-
 // word_kind tells keywords from names.
-fn word_kind<'a>(word: &'a [u8]) -> TokenKind<'a>
+fn word_kind(word: &[u8]) -> TokenKind<'_>
     ensures { Some (kind_meant result) ≡ token_of namelike word.now }
 {
+    // A match: map_or gets no proof where its result borrows what its argument doesn't.
     match keyword(word) {
         Some(symbol) => TokenKind::Symbol(symbol),
         None => TokenKind::Name(word),
     }
 }
 
-fn longest_operator<'a>(text: &'a [u8]) -> Option<Lexeme<'a>>
+fn longest_operator(text: &[u8]) -> Option<Lexeme<'_>>
     requires { OnlyOperators text.now }
     ensures { FoundOrNone text.now result }
 {
-    match operator_of(text, 2) {
-        Some(lexeme) => Some(lexeme),
-        None => operator_of(text, 1),
-    }
+    operator_of(text, 2).or_else(|| operator_of(text, 1))
 }
 
 // operator_of is the first bytes of a text where they are an operator.
-fn operator_of<'a>(text: &'a [u8], size: usize) -> Option<Lexeme<'a>>
+fn operator_of(text: &[u8], size: usize) -> Option<Lexeme<'_>>
     ensures { Tried operators size text.now result }
 {
-    if text.len() < size {
-        return None;
-    }
-    match operator(&text[..size]) {
-        Some(symbol) => Some(Lexeme {
-            size,
-            kind: Some(TokenKind::Symbol(symbol)),
-        }),
-        None => None,
-    }
+    let symbol = operator(text.get(..size)?)?;
+    Some(Lexeme {
+        size,
+        kind: Some(TokenKind::Symbol(symbol)),
+    })
 }
 
-fn longest_constant<'a>(text: &'a [u8]) -> Option<Lexeme<'a>>
+fn longest_constant(text: &[u8]) -> Option<Lexeme<'_>>
     requires some { 0 < length text.now }
     requires quote { slice_index text.now 0 ≡ 39 }
     ensures { FoundOrNone text.now result }
 {
-    match constant_of(text, 3) {
-        Some(lexeme) => Some(lexeme),
-        None => constant_of(text, 4),
-    }
+    let (size, value) = match *text {
+        [b'\'', b'\\', letter, b'\'', ..] => (4, escape_value(letter)?),
+        [b'\'', byte, b'\'', ..] => (3, plain_value(byte)?),
+        _ => return None,
+    };
+    Some(Lexeme {
+        size,
+        kind: Some(TokenKind::Character(value)),
+    })
 }
 
-// constant_of is the first bytes of a text where they are a character constant.
-fn constant_of<'a>(text: &'a [u8], size: usize) -> Option<Lexeme<'a>>
-    ensures { Tried quotation size text.now result }
-{
-    if text.len() < size {
-        return None;
-    }
-    match constant_value(&text[..size]) {
-        Some(value) => Some(Lexeme {
-            size,
-            kind: Some(TokenKind::Character(value)),
-        }),
-        None => None,
-    }
-}
-
-fn constant_value(bytes: &[u8]) -> Option<u8>
-    ensures { result ≡ constant bytes.now }
-{
-    if bytes.len() == 3 && bytes[0] == b'\'' && bytes[2] == b'\'' {
-        plain_value(bytes[1])
-    } else if bytes.len() == 4 && bytes[0] == b'\'' && bytes[1] == b'\\' && bytes[3] == b'\'' {
-        escape_value(bytes[2])
-    } else {
-        None
-    }
-}
-
+// plain_value is the value of a byte that stands for itself.
 fn plain_value(byte: u8) -> Option<u8>
     ensures { result ≡ plain byte }
 {
-    if b' ' <= byte && byte <= b'~' && byte != b'\\' {
-        Some(byte)
-    } else {
-        None
+    match byte {
+        b'\\' => None,
+        b' '..=b'~' => Some(byte),
+        _ => None,
     }
 }
 
+// escape_value is the value of a letter behind a backslash.
 fn escape_value(letter: u8) -> Option<u8>
     ensures { result ≡ escape letter }
 {
-    match letter as char {
-        'n' => Some(b'\n'),
-        'r' => Some(b'\r'),
-        't' => Some(b'\t'),
+    match letter {
+        b'n' => Some(b'\n'),
+        b'r' => Some(b'\r'),
+        b't' => Some(b'\t'),
         _ => None,
     }
 }

@@ -4,6 +4,7 @@
 //
 // bytes.rt: classes of bytes and runs of them. symbols.rt: keywords and operators. numbers.rt: which numbers fit.
 // lexeme.rt: the longest lexeme at the front of a text. scan.rt: the tokens of a text. laws.rt: laws of the definitions.
+// tests.rt: texts, and their tokens or faults.
 #![tactic(auto)]
 
 mod bytes;
@@ -12,3 +13,5 @@ mod lexeme;
 mod numbers;
 pub mod scan;
 mod symbols;
+#[cfg(test)]
+mod tests;

@@ -5,28 +5,23 @@ ghost use Rattle.std.specs.Prelude.{◌≡◌, nat_lt};
 use syntax::token::TokenKind;
 
 // LARGEST_NUMBER is the largest number that a text can have.
-const LARGEST_NUMBER: u64 = 2_147_483_647;
+const LARGEST_NUMBER: u32 = 2_147_483_647;
 
 // is_too_large says whether a token is a number above the largest.
 pub(crate) fn is_too_large(kind: Option<TokenKind<'_>>) -> bool
     ensures { Judged kind.entry result }
 {
-    match kind {
-        Some(TokenKind::Number(digits)) => exceeds(digits),
-        _ => false,
-    }
+    matches!(kind, Some(TokenKind::Number(digits)) if exceeds(digits))
 }
 
 // exceeds says whether digits, of which there may be any number, are worth more than the largest number.
 fn exceeds(digits: &[u8]) -> bool
     ensures { result ≡ nat_lt 2147483647 (worth 0 digits.now) }
 {
-    let mut value: u64 = 0;
-    for digit in digits {
-        value = 10 * value + u64::from(digit.saturating_sub(b'0'));
-        if value > LARGEST_NUMBER {
-            return true;
-        }
-    }
-    false
+    let worth = digits.iter().fold(0u32, |worth, digit| {
+        worth
+            .saturating_mul(10)
+            .saturating_add(u32::from(digit.saturating_sub(b'0')))
+    });
+    worth > LARGEST_NUMBER
 }

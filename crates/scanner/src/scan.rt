@@ -37,7 +37,7 @@ pub fn scan<'a>(text: &'a [u8], tokens: &mut Vec<Token<'a>>) -> Result<Position,
         rest: text,
         position: Position { line: 1, column: 1 },
     };
-    while scanner.rest.len() > 0 {
+    while !scanner.rest.is_empty() {
         if let Some(token) = scanner.next()? {
             tokens.push_reserved(token);
         }
@@ -47,31 +47,22 @@ pub fn scan<'a>(text: &'a [u8], tokens: &mut Vec<Token<'a>>) -> Result<Position,
 
 impl<'a> Scanner<'a> {
     // next goes behind the next lexeme, and gives its token where it is one.
+    // It is no Iterator's: scan needs the position behind the last lexeme too, and a trait's method can't ask for room.
     fn next(&mut self) -> Result<Option<Token<'a>>, Fault>
         requires some { 0 < length self.old.rest.now }
         requires room { Room self.old.position (length self.old.rest.now) }
         ensures { Stepped self.old self.new result }
     {
         let position = self.position;
-        let Some(lexeme) = longest_lexeme(self.rest) else {
-            return Err(Fault {
-                refusal: Refusal::NoToken,
-                position,
-            });
-        };
+        let fault = |refusal| Fault { refusal, position };
+        let lexeme = longest_lexeme(self.rest).ok_or(fault(Refusal::NoToken))?;
         if is_too_large(lexeme.kind) {
-            return Err(Fault {
-                refusal: Refusal::NumberTooLarge,
-                position,
-            });
+            return Err(fault(Refusal::NumberTooLarge));
         }
         let (front, rest) = self.rest.split_at(lexeme.size);
         self.rest = rest;
         self.position = position_behind(position, front);
-        match lexeme.kind {
-            Some(kind) => Ok(Some(Token { kind, position })),
-            None => Ok(None),
-        }
+        Ok(lexeme.kind.map(|kind| Token { kind, position }))
     }
 }
 
@@ -80,15 +71,14 @@ fn position_behind(position: Position, bytes: &[u8]) -> Position
     requires { Room position (length bytes.now) }
     ensures { result ≡ behind position bytes.now }
 {
-    let mut line = position.line;
-    let mut column = position.column;
+    let mut at = position;
     for byte in bytes {
         if *byte == b'\n' {
-            line += 1;
-            column = 1;
+            at.line += 1;
+            at.column = 1;
         } else {
-            column += 1;
+            at.column += 1;
         }
     }
-    Position { line, column }
+    at
 }

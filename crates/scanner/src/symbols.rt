@@ -1,5 +1,4 @@
 ghost use Rattle.scanner.specs.Tables.{table};
-ghost use Rattle.std.specs.Str.{bytes_eq};
 ghost use Rattle.syntax.specs.Lexemes.{seek, keywords, operators};
 ghost use Rattle.std.specs.Prelude.{◌≡◌};
 
@@ -70,16 +69,8 @@ pub(crate) fn operator(bytes: &[u8]) -> Option<Symbol>
 fn sought(spellings: &[Spelling], word: &[u8]) -> Option<Symbol>
     ensures { result ≡ seek (table spellings.now) word.now }
 {
-    for spelling in spellings {
-        if same(spelling.0, word) {
-            return Some(spelling.1);
-        }
-    }
-    None
-}
-
-fn same(a: &[u8], b: &[u8]) -> bool
-    ensures { result ≡ bytes_eq a.now b.now }
-{
-    a == b
+    spellings
+        .iter()
+        .find(|spelling| spelling.0 == word)
+        .map(|spelling| spelling.1)
 }

@@ -1,17 +1,13 @@
 -- The class of a lexeme is decided by its first bytes.
 use Rattle.std.proofs.Common.{◌≡◌, ℕ, zero, suc, ◌≤◌, Bool, true, false, cond, ◌&&◌, eqb, leb, ◌⊎◌, List, [], ◌∷◌, length, is_some, Some, None, Option, sym, refl, ap, ◌∙◌, subst, inl, inr, arith}
-use Rattle.std.specs.Option.{option_or}
+use Rattle.std.specs.Option.{option_map, option_or}
 use Rattle.std.specs.Str.{bytes_eq}
 use Rattle.std.proofs.lemmas.Slice.Eq.{bytes_eq-Decides}
 use Rattle.std.proofs.lemmas.Bool.{eqb-true, both_ways, and_parts, and_left, cond-true, cond-false, leb-true}
 use Rattle.std.proofs.lemmas.Bool.Decides.{nat_tests}
 use Rattle.syntax.specs.declared.symbol.Symbol.{Symbol}
-use Rattle.syntax.specs.Tokens.{name, number, character}
-use Rattle.syntax.specs.Lexemes.{keywords, character_for, symbol_for, token_of, is_letter, is_digit, is_blank, Spelt, seek, operators, constant, quoted, Class, blank, comment, namelike, numeric, quotation, operator, is, NoLexeme}
-
-pub no_from : (t : Bool) → (t ≡ true → ⊥) → t ≡ false
-no_from true h = absurd (h refl)
-no_from false h = refl
+use Rattle.syntax.specs.Tokens.{name, number, character, symbol}
+use Rattle.syntax.specs.Lexemes.{keywords, token_of, is_letter, is_digit, is_blank, Spelt, seek, operators, constant, quoted, Class, blank, comment, namelike, numeric, quotation, operator, is, NoLexeme}
 
 -- the class of what begins with a byte, apart from comments
 abbrev pub by_first : ℕ → Class
@@ -153,21 +149,21 @@ empty_none (suc n) c l = none_empty c
 
 -- only a number's token is a number
 pub number_class : (c : Class) (w : List ℕ) (n : ℕ) → token_of c w ≡ Some (number n) → c ≡ numeric
-number_class blank w n e = absurd (let z : ◌≡◌ {A = ℕ} 0 1 = cc in omega arith)
-number_class comment w n e = absurd (let z : ◌≡◌ {A = ℕ} 0 1 = cc in omega arith)
+number_class blank w n e = absurd cc
+number_class comment w n e = absurd cc
 number_class namelike w n e = name_kind (seek keywords w) e
   where
-    name_kind : (s : Option Symbol) → option_or (symbol_for s) (Some (name w)) ≡ Some (number n) → namelike ≡ numeric
-    name_kind None e = absurd (let z : ◌≡◌ {A = ℕ} 0 1 = cc in omega arith)
-    name_kind (Some s) e = absurd (let z : ◌≡◌ {A = ℕ} 0 1 = cc in omega arith)
+    name_kind : (s : Option Symbol) → option_or (option_map symbol s) (Some (name w)) ≡ Some (number n) → namelike ≡ numeric
+    name_kind None e = absurd cc
+    name_kind (Some s) e = absurd cc
 number_class numeric w n e = refl
 number_class quotation w n e = constant_kind (constant w) e
   where
-    constant_kind : (v : Option ℕ) → character_for character v ≡ Some (number n) → quotation ≡ numeric
-    constant_kind None e = absurd (let z : ◌≡◌ {A = ℕ} 0 1 = cc in omega arith)
-    constant_kind (Some v) e = absurd (let z : ◌≡◌ {A = ℕ} 0 1 = cc in omega arith)
+    constant_kind : (v : Option ℕ) → option_map character v ≡ Some (number n) → quotation ≡ numeric
+    constant_kind None e = absurd cc
+    constant_kind (Some v) e = absurd cc
 number_class operator w n e = symbol_kind (seek operators w) e
   where
-    symbol_kind : (s : Option Symbol) → symbol_for s ≡ Some (number n) → operator ≡ numeric
-    symbol_kind None e = absurd (let z : ◌≡◌ {A = ℕ} 0 1 = cc in omega arith)
-    symbol_kind (Some s) e = absurd (let z : ◌≡◌ {A = ℕ} 0 1 = cc in omega arith)
+    symbol_kind : (s : Option Symbol) → option_map symbol s ≡ Some (number n) → operator ≡ numeric
+    symbol_kind None e = absurd cc
+    symbol_kind (Some s) e = absurd cc

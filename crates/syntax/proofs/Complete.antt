@@ -18,6 +18,16 @@ pub record Reads {A : Type 0} (p : ℕ → Parse A) (spelt : List Token) (x : A)
   pub need : ℕ
   pub reads : (n : ℕ) (us : List Token) → need ≤ n → Follow us → p n (spelt ++ us) ≡ took x us
 
+-- p needs one level more than those that it calls, one level deeper
+pub deeper :
+    {A : Type 0} {p : ℕ → Parse A} {spelt : List Token} {x : A} {Follow : List Token → Type 0} (k : ℕ) →
+    ((m : ℕ) (us : List Token) → k ≤ m → Follow us → p (suc m) (spelt ++ us) ≡ took x us) → Reads p spelt x Follow
+deeper {p = p} {spelt = spelt} {x = x} {Follow = Follow} k h = record { need = suc k; reads = go }
+  where
+    go : (n : ℕ) (us : List Token) → suc k ≤ n → Follow us → p n (spelt ++ us) ≡ took x us
+    go zero us l f = absurd (omega arith)
+    go (suc m) us l f = h m us (omega arith) f
+
 abbrev pub Not : Symbol → List Token → Type 0
 Not s us = is_front s us ≡ false
 
@@ -70,162 +80,102 @@ starts_expr (negative p t ts) l us = refl
 
 positive_reads :
     (t : Term) (ts : Terms) (l : ℕ) → Reads p_t (spelling.term keep t l l) t AfterTerm → Reads p_ts (spelling.terms keep ts l) ts AfterExpr → Reads p_e (spelling.expr keep (positive t ts) l) (positive t ts) AfterExpr
-positive_reads t ts l r s = record { need = suc (max r.need s.need); reads = go }
-  where
-    go : (n : ℕ) (us : List Token) → suc (max r.need s.need) ≤ n → AfterExpr us → p_e n (spelling.expr keep (positive t ts) l ++ us) ≡ took (positive t ts) us
-    go zero us h f = absurd (omega arith)
-    go (suc m) us h f =
-        let a = r.reads m (spelling.terms keep ts l ++ us) (omega arith) (after_terms ts l us f) in
-        let b = s.reads m us (omega arith) f in
-        let c = (starts_term t l l (spelling.terms keep ts l ++ us)).1 in
-        rw (append_assoc, c, a, b) refl
+positive_reads t ts l r s = deeper (max r.need s.need) (λ m us h f.
+    let a = r.reads m (spelling.terms keep ts l ++ us) (omega arith) (after_terms ts l us f) in
+    let b = s.reads m us (omega arith) f in
+    let c = (starts_term t l l (spelling.terms keep ts l ++ us)).1 in
+    rw (append_assoc, c, a, b) refl)
 
 negative_reads :
     (p : At) (t : Term) (ts : Terms) (l : ℕ) → Reads p_t (spelling.term keep t l 0) t AfterTerm → Reads p_ts (spelling.terms keep ts l) ts AfterExpr → Reads p_e (spelling.expr keep (negative p t ts) l) (negative p t ts) AfterExpr
-negative_reads p t ts l r s = record { need = suc (max r.need s.need); reads = go }
-  where
-    go : (n : ℕ) (us : List Token) → suc (max r.need s.need) ≤ n → AfterExpr us → p_e n (spelling.expr keep (negative p t ts) l ++ us) ≡ took (negative p t ts) us
-    go zero us h f = absurd (omega arith)
-    go (suc m) us h f =
-        let a = r.reads m (spelling.terms keep ts l ++ us) (omega arith) (after_terms ts l us f) in
-        let b = s.reads m us (omega arith) f in
-        rw (append_assoc, a, b) refl
+negative_reads p t ts l r s = deeper (max r.need s.need) (λ m us h f.
+    let a = r.reads m (spelling.terms keep ts l ++ us) (omega arith) (after_terms ts l us f) in
+    let b = s.reads m us (omega arith) f in
+    rw (append_assoc, a, b) refl)
 
 no_terms_reads : (l : ℕ) → Reads p_ts (spelling.terms keep no_terms l) no_terms AfterExpr
-no_terms_reads l = record { need = 1; reads = go }
-  where
-    go : (n : ℕ) (us : List Token) → 1 ≤ n → AfterExpr us → p_ts n us ≡ took no_terms us
-    go zero us h f = absurd (omega arith)
-    go (suc m) us h f = rw (f.1, f.2) refl
+no_terms_reads l = deeper 0 (λ m us h f. rw (f.1, f.2) refl)
 
 and_term_reads :
     (o : Addop) (p : At) (t : Term) (ts : Terms) (l : ℕ) → Reads p_t (spelling.term keep t l 0) t AfterTerm → Reads p_ts (spelling.terms keep ts l) ts AfterExpr →
     Reads p_ts (spelling.terms keep (and_term o p t ts) l) (and_term o p t ts) AfterExpr
-and_term_reads o p t ts l r s = record { need = suc (max r.need s.need); reads = go o }
-  where
-    go : (o : Addop) (n : ℕ) (us : List Token) → suc (max r.need s.need) ≤ n → AfterExpr us → p_ts n (spelling.terms keep (and_term o p t ts) l ++ us) ≡ took (and_term o p t ts) us
-    go plus zero us h f = absurd (omega arith)
-    go plus (suc m) us h f =
-        let a = r.reads m (spelling.terms keep ts l ++ us) (omega arith) (after_terms ts l us f) in
-        let b = s.reads m us (omega arith) f in
-        rw (append_assoc, a, b) refl
-    go minus zero us h f = absurd (omega arith)
-    go minus (suc m) us h f =
-        let a = r.reads m (spelling.terms keep ts l ++ us) (omega arith) (after_terms ts l us f) in
-        let b = s.reads m us (omega arith) f in
-        rw (append_assoc, a, b) refl
+and_term_reads plus p t ts l r s = deeper (max r.need s.need) (λ m us h f.
+    let a = r.reads m (spelling.terms keep ts l ++ us) (omega arith) (after_terms ts l us f) in
+    let b = s.reads m us (omega arith) f in
+    rw (append_assoc, a, b) refl)
+and_term_reads minus p t ts l r s = deeper (max r.need s.need) (λ m us h f.
+    let a = r.reads m (spelling.terms keep ts l ++ us) (omega arith) (after_terms ts l us f) in
+    let b = s.reads m us (omega arith) f in
+    rw (append_assoc, a, b) refl)
 
 product_reads :
     (g : Factor) (fs : Factors) (l o : ℕ) → Reads p_f (spelling.factor keep g l o) g AfterFactor → Reads p_fs (spelling.factors keep fs l) fs AfterTerm → Reads p_t (spelling.term keep (product g fs) l o) (product g fs) AfterTerm
-product_reads g fs l o r s = record { need = suc (max r.need s.need); reads = go }
-  where
-    go : (n : ℕ) (us : List Token) → suc (max r.need s.need) ≤ n → AfterTerm us → p_t n (spelling.term keep (product g fs) l o ++ us) ≡ took (product g fs) us
-    go zero us h f = absurd (omega arith)
-    go (suc m) us h f =
-        let a = r.reads m (spelling.factors keep fs l ++ us) (omega arith) (after_factors fs l us f) in
-        let b = s.reads m us (omega arith) f in
-        rw (append_assoc, a, b) refl
+product_reads g fs l o r s = deeper (max r.need s.need) (λ m us h f.
+    let a = r.reads m (spelling.factors keep fs l ++ us) (omega arith) (after_factors fs l us f) in
+    let b = s.reads m us (omega arith) f in
+    rw (append_assoc, a, b) refl)
 
 no_factors_reads : (l : ℕ) → Reads p_fs (spelling.factors keep no_factors l) no_factors AfterTerm
-no_factors_reads l = record { need = 1; reads = go }
-  where
-    go : (n : ℕ) (us : List Token) → 1 ≤ n → AfterTerm us → p_fs n us ≡ took no_factors us
-    go zero us h f = absurd (omega arith)
-    go (suc m) us h f = rw (f.1, f.2, f.3) refl
+no_factors_reads l = deeper 0 (λ m us h f. rw (f.1, f.2, f.3) refl)
 
 and_factor_reads :
     (o : Mulop) (p : At) (g : Factor) (fs : Factors) (l : ℕ) → Reads p_f (spelling.factor keep g l 0) g AfterFactor → Reads p_fs (spelling.factors keep fs l) fs AfterTerm →
     Reads p_fs (spelling.factors keep (and_factor o p g fs) l) (and_factor o p g fs) AfterTerm
-and_factor_reads o p g fs l r s = record { need = suc (max r.need s.need); reads = go o }
-  where
-    go : (o : Mulop) (n : ℕ) (us : List Token) → suc (max r.need s.need) ≤ n → AfterTerm us → p_fs n (spelling.factors keep (and_factor o p g fs) l ++ us) ≡ took (and_factor o p g fs) us
-    go times zero us h f = absurd (omega arith)
-    go times (suc m) us h f =
-        let a = r.reads m (spelling.factors keep fs l ++ us) (omega arith) (after_factors fs l us f) in
-        let b = s.reads m us (omega arith) f in
-        rw (append_assoc, a, b) refl
-    go over zero us h f = absurd (omega arith)
-    go over (suc m) us h f =
-        let a = r.reads m (spelling.factors keep fs l ++ us) (omega arith) (after_factors fs l us f) in
-        let b = s.reads m us (omega arith) f in
-        rw (append_assoc, a, b) refl
-    go percent zero us h f = absurd (omega arith)
-    go percent (suc m) us h f =
-        let a = r.reads m (spelling.factors keep fs l ++ us) (omega arith) (after_factors fs l us f) in
-        let b = s.reads m us (omega arith) f in
-        rw (append_assoc, a, b) refl
+and_factor_reads times p g fs l r s = deeper (max r.need s.need) (λ m us h f.
+    let a = r.reads m (spelling.factors keep fs l ++ us) (omega arith) (after_factors fs l us f) in
+    let b = s.reads m us (omega arith) f in
+    rw (append_assoc, a, b) refl)
+and_factor_reads over p g fs l r s = deeper (max r.need s.need) (λ m us h f.
+    let a = r.reads m (spelling.factors keep fs l ++ us) (omega arith) (after_factors fs l us f) in
+    let b = s.reads m us (omega arith) f in
+    rw (append_assoc, a, b) refl)
+and_factor_reads percent p g fs l r s = deeper (max r.need s.need) (λ m us h f.
+    let a = r.reads m (spelling.factors keep fs l ++ us) (omega arith) (after_factors fs l us f) in
+    let b = s.reads m us (omega arith) f in
+    rw (append_assoc, a, b) refl)
 
 -- what may follow a designator
 abbrev pub AfterName : List Token → Type 0
 AfterName us = Not sym.OpenBracket us
 
 value_reads : (d : Designator) (l o : ℕ) → Reads p_d (spelling.designator keep d l o) d AfterName → Reads p_f (spelling.factor keep (value d) l o) (value d) AfterFactor
-value_reads d l o r = record { need = suc r.need; reads = go }
-  where
-    go : (n : ℕ) (us : List Token) → suc r.need ≤ n → AfterFactor us → p_f n (spelling.factor keep (value d) l o ++ us) ≡ took (value d) us
-    go zero us h f = absurd (omega arith)
-    go (suc m) us h f =
-        let a = r.reads m us (omega arith) f.1 in
-        let c = front_designator d l o us in
-        rw (c, a, f.0) refl
+value_reads d l o r = deeper r.need (λ m us h f.
+    let a = r.reads m us (omega arith) f.1 in
+    let c = front_designator d l o us in
+    rw (c, a, f.0) refl)
 
 call_reads :
     (d : Designator) (p : At) (xs : Arguments) (q : At) (l o : ℕ) → Reads p_d (spelling.designator keep d l o) d AfterName → Reads p_as (spelling.argument_list keep xs l) xs Closes →
     Reads p_f (spelling.factor keep (call d p xs q) l o) (call d p xs q) AfterFactor
-call_reads d p xs q l o r s = record { need = suc (max r.need s.need); reads = go }
-  where
-    go : (n : ℕ) (us : List Token) → suc (max r.need s.need) ≤ n → AfterFactor us → p_f n (spelling.factor keep (call d p xs q) l o ++ us) ≡ took (call d p xs q) us
-    go zero us h f = absurd (omega arith)
-    go (suc m) us h f =
-        let rest = spelling.sign keep 0 sym.OpenParenthesis p ∷ (spelling.argument_list keep xs l ++ spelling.sign keep 0 sym.CloseParenthesis q ∷ us) in
-        let e : spelling.factor keep (call d p xs q) l o ++ us ≡ spelling.designator keep d l o ++ rest = simp append_assoc in
-        let a = r.reads m rest (omega arith) refl in
-        let b = s.reads m (spelling.sign keep 0 sym.CloseParenthesis q ∷ us) (omega arith) refl in
-        let c = front_designator d l o rest in
-        rw (e, c, a, b) refl
+call_reads d p xs q l o r s = deeper (max r.need s.need) (λ m us h f.
+    let rest = spelling.sign keep 0 sym.OpenParenthesis p ∷ (spelling.argument_list keep xs l ++ spelling.sign keep 0 sym.CloseParenthesis q ∷ us) in
+    let e : spelling.factor keep (call d p xs q) l o ++ us ≡ spelling.designator keep d l o ++ rest = simp append_assoc in
+    let a = r.reads m rest (omega arith) refl in
+    let b = s.reads m (spelling.sign keep 0 sym.CloseParenthesis q ∷ us) (omega arith) refl in
+    let c = front_designator d l o rest in
+    rw (e, c, a, b) refl)
 
 literal_reads : (x : Literal) (l o : ℕ) → Reads p_f (spelling.factor keep (literal x) l o) (literal x) AfterFactor
-literal_reads x l o = record { need = 1; reads = go x }
-  where
-    go : (x : Literal) (n : ℕ) (us : List Token) → 1 ≤ n → AfterFactor us → p_f n (spelling.factor keep (literal x) l o ++ us) ≡ took (literal x) us
-    go (integer k p) zero us h f = absurd (omega arith)
-    go (integer k p) (suc m) us h f = refl
-    go (letter k p) zero us h f = absurd (omega arith)
-    go (letter k p) (suc m) us h f = refl
+literal_reads (integer k p) l o = deeper 0 (λ m us h f. refl)
+literal_reads (letter k p) l o = deeper 0 (λ m us h f. refl)
 
 new_reads : (p : At) (x : Name) (q : At) (e : Expr) (r : At) (l o : ℕ) → Reads p_e (spelling.expr keep e (suc l)) e AfterExpr → Reads p_f (spelling.factor keep (new p x q e r) l o) (new p x q e r) AfterFactor
-new_reads p x q e r l o s = record { need = suc s.need; reads = go }
-  where
-    go : (n : ℕ) (us : List Token) → suc s.need ≤ n → AfterFactor us → p_f n (spelling.factor keep (new p x q e r) l o ++ us) ≡ took (new p x q e r) us
-    go zero us h f = absurd (omega arith)
-    go (suc m) us h f =
-        let a = s.reads m (spelling.sign keep 0 sym.CloseBracket r ∷ us) (omega arith) (((refl, refl), refl, refl, refl), refl, refl) in
-        rw (append_assoc, a) refl
+new_reads p x q e r l o s = deeper s.need (λ m us h f.
+    let a = s.reads m (spelling.sign keep 0 sym.CloseBracket r ∷ us) (omega arith) (((refl, refl), refl, refl, refl), refl, refl) in
+    rw (append_assoc, a) refl)
 
 parenthesis_reads : (p : At) (e : Expr) (q : At) (l o : ℕ) → Reads p_e (spelling.expr keep e (suc l)) e AfterExpr → Reads p_f (spelling.factor keep (parenthesis p e q) l o) (parenthesis p e q) AfterFactor
-parenthesis_reads p e q l o s = record { need = suc s.need; reads = go }
-  where
-    go : (n : ℕ) (us : List Token) → suc s.need ≤ n → AfterFactor us → p_f n (spelling.factor keep (parenthesis p e q) l o ++ us) ≡ took (parenthesis p e q) us
-    go zero us h f = absurd (omega arith)
-    go (suc m) us h f =
-        let a = s.reads m (spelling.sign keep 0 sym.CloseParenthesis q ∷ us) (omega arith) (((refl, refl), refl, refl, refl), refl, refl) in
-        rw (append_assoc, a) refl
+parenthesis_reads p e q l o s = deeper s.need (λ m us h f.
+    let a = s.reads m (spelling.sign keep 0 sym.CloseParenthesis q ∷ us) (omega arith) (((refl, refl), refl, refl, refl), refl, refl) in
+    rw (append_assoc, a) refl)
 
 whole_reads : (x : Name) (l o : ℕ) → Reads p_d (spelling.designator keep (whole x) l o) (whole x) AfterName
-whole_reads x l o = record { need = 1; reads = go }
-  where
-    go : (n : ℕ) (us : List Token) → 1 ≤ n → AfterName us → p_d n (spelling.designator keep (whole x) l o ++ us) ≡ took (whole x) us
-    go zero us h f = absurd (omega arith)
-    go (suc m) us h f = rw f refl
+whole_reads x l o = deeper 0 (λ m us h f. rw f refl)
 
 element_reads : (x : Name) (p : At) (e : Expr) (q : At) (l o : ℕ) → Reads p_e (spelling.expr keep e (suc l)) e AfterExpr → Reads p_d (spelling.designator keep (element x p e q) l o) (element x p e q) AfterName
-element_reads x p e q l o s = record { need = suc s.need; reads = go }
-  where
-    go : (n : ℕ) (us : List Token) → suc s.need ≤ n → AfterName us → p_d n (spelling.designator keep (element x p e q) l o ++ us) ≡ took (element x p e q) us
-    go zero us h f = absurd (omega arith)
-    go (suc m) us h f =
-        let a = s.reads m (spelling.sign keep 0 sym.CloseBracket q ∷ us) (omega arith) (((refl, refl), refl, refl, refl), refl, refl) in
-        rw (append_assoc, a) refl
+element_reads x p e q l o s = deeper s.need (λ m us h f.
+    let a = s.reads m (spelling.sign keep 0 sym.CloseBracket q ∷ us) (omega arith) (((refl, refl), refl, refl, refl), refl, refl) in
+    rw (append_assoc, a) refl)
 
 -- what comes at most behind an expression, by its number
 abbrev Behind : ℕ → Type 0
@@ -244,11 +194,7 @@ after_more no_more l us c = (closing us c).0
 after_more (and_argument p e m) l us c = (((refl, refl), refl, refl, refl), refl, refl)
 
 no_arguments_reads : (l : ℕ) → Reads p_as (spelling.argument_list keep no_arguments l) no_arguments Closes
-no_arguments_reads l = record { need = 1; reads = go }
-  where
-    go : (n : ℕ) (us : List Token) → 1 ≤ n → Closes us → p_as n us ≡ took no_arguments us
-    go zero us h f = absurd (omega arith)
-    go (suc m) us h f = rw f refl
+no_arguments_reads l = deeper 0 (λ m us h f. rw f refl)
 
 arguments_reads :
     (e : Expr) (m : More) (l : ℕ) → Reads p_e (spelling.expr keep e (suc l)) e AfterExpr → Reads p_more (spelling.more keep m l) m Closes → Reads p_as (spelling.argument_list keep (arguments e m) l) (arguments e m) Closes

@@ -2,12 +2,12 @@
 use Rattle.std.proofs.Common.{◌≡◌, ℕ, zero, suc, ◌≤◌, max, true, false, eqb, List, [], ◌∷◌, ◌++◌, sym, refl, ap, ◌∙◌, subst, append_assoc, arith, true-eqb}
 use Rattle.syntax.specs.declared.symbol.Symbol.TheVariants as sym
 use Rattle.syntax.specs.Tokens.{Token}
-use Rattle.syntax.specs.Trees.{At, Literal, integer, letter, Statements, Declared, scalar, array, Declareds, last, and, Variables, Declaration, constant, variables, Parameter, Parameters, no_parameters, parameters, ResultType, void, typed, Method, Program, nearest_all, nearest_in}
+use Rattle.syntax.specs.Trees.{At, integer, letter, Statements, Declared, scalar, array, Declareds, last, and, Variables, Declaration, constant, variables, Parameter, Parameters, no_parameters, parameters, ResultType, void, typed, Method, Program, nearest_all, nearest_in}
 use Rattle.syntax.specs.Spelling as spelling
 use Rattle.syntax.specs.Reading.{OneReading}
 use Rattle.syntax.proofs.Fronts.{a_name, front, is_front}
 use Rattle.syntax.proofs.Parser.{took, p_declared, p_declareds, p_declarations, p_locals, p_others, p_parameters, p_result, p_method, p_methods, p_program, p_ss}
-use Rattle.syntax.proofs.Complete.{keep, Reads, Not}
+use Rattle.syntax.proofs.Complete.{keep, Reads, deeper, Not}
 use Rattle.syntax.proofs.CompleteStatements.{ClosesBlock, split, reads_statements}
 
 -- what may follow a name and its brackets
@@ -19,26 +19,18 @@ abbrev AfterDeclareds : List Token → Type 0
 AfterDeclareds us = Not sym.OpenBracket us × Not sym.Comma us
 
 reads_declareds : (ds : Declareds) → Reads p_declareds (spelling.declareds keep ds) ds AfterDeclareds
-reads_declareds (last d) = record { need = 1; reads = go }
-  where
-    go : (n : ℕ) (us : List Token) → 1 ≤ n → AfterDeclareds us → p_declareds n (spelling.declareds keep (last d) ++ us) ≡ took (last d) us
-    go zero us h f = absurd (omega arith)
-    go (suc m) us h f =
-        let a = declared_reads d us f.0 in
-        rw (a, f.1) refl
+reads_declareds (last d) = deeper 0 (λ m us h f.
+    let a = declared_reads d us f.0 in
+    rw (a, f.1) refl)
 reads_declareds (and d p ds) = more d p ds (reads_declareds ds)
   where
     more : (d : Declared) (p : At) (ds : Declareds) → Reads p_declareds (spelling.declareds keep ds) ds AfterDeclareds → Reads p_declareds (spelling.declareds keep (and d p ds)) (and d p ds) AfterDeclareds
-    more d p ds r = record { need = suc r.need; reads = go }
-      where
-        go : (n : ℕ) (us : List Token) → suc r.need ≤ n → AfterDeclareds us → p_declareds n (spelling.declareds keep (and d p ds) ++ us) ≡ took (and d p ds) us
-        go zero us h f = absurd (omega arith)
-        go (suc m) us h f =
-            let t = spelling.sign keep 0 sym.Comma p ∷ (spelling.declareds keep ds ++ us) in
-            let w : spelling.declareds keep (and d p ds) ++ us ≡ spelling.declared keep d ++ t = append_assoc (spelling.declared keep d) (spelling.sign keep 0 sym.Comma p ∷ spelling.declareds keep ds) us in
-            let a = declared_reads d t refl in
-            let b = r.reads m us (omega arith) f in
-            rw (w, a, b) refl
+    more d p ds r = deeper r.need (λ m us h f.
+        let t = spelling.sign keep 0 sym.Comma p ∷ (spelling.declareds keep ds ++ us) in
+        let w : spelling.declareds keep (and d p ds) ++ us ≡ spelling.declared keep d ++ t = append_assoc (spelling.declared keep d) (spelling.sign keep 0 sym.Comma p ∷ spelling.declareds keep ds) us in
+        let a = declared_reads d t refl in
+        let b = r.reads m us (omega arith) f in
+        rw (w, a, b) refl)
 
 -- the names of a declaration and the semicolon behind them
 names_read : (v : Variables) (n : ℕ) (us : List Token) → (reads_declareds v.declared).need ≤ n → p_declareds n (spelling.declareds keep v.declared ++ spelling.sign keep 0 sym.Semicolon v.semicolon ∷ us) ≡ took v.declared (spelling.sign keep 0 sym.Semicolon v.semicolon ∷ us)
@@ -50,47 +42,26 @@ AfterDeclarations us = is_front sym.OpenBrace us ≡ true
 opens_nothing : (us : List Token) → AfterDeclarations us → Not sym.Final us × (eqb (front us) a_name ≡ false)
 opens_nothing us f = let P : ℕ → Type 0 = λ n. (eqb n 4 ≡ false) × (eqb n 40 ≡ false) in subst P (sym (true-eqb (front us) 35 (sym f))) (refl, refl)
 
-no_declarations : (n : ℕ) (us : List Token) → 1 ≤ n → AfterDeclarations us → p_declarations n us ≡ took [] us
-no_declarations zero us h f = absurd (omega arith)
-no_declarations (suc m) us h f = let a = opens_nothing us f in rw (a.0, a.1) refl
-
 declaration_first : (d : Declaration) (ds : List Declaration) → Reads p_declarations (spelling.declarations keep ds) ds AfterDeclarations → Reads p_declarations (spelling.declarations keep (d ∷ ds)) (d ∷ ds) AfterDeclarations
-declaration_first (constant p x y q l r) ds s = record { need = suc s.need; reads = go l }
-  where
-    go : (l : Literal) (n : ℕ) (us : List Token) → suc s.need ≤ n → AfterDeclarations us → p_declarations n (spelling.declarations keep (constant p x y q l r ∷ ds) ++ us) ≡ took (constant p x y q l r ∷ ds) us
-    go (integer k t) zero us h f = absurd (omega arith)
-    go (integer k t) (suc m) us h f = let b = s.reads m us (omega arith) f in rw b refl
-    go (letter k t) zero us h f = absurd (omega arith)
-    go (letter k t) (suc m) us h f = let b = s.reads m us (omega arith) f in rw b refl
-declaration_first (variables v) ds s = record { need = suc (max (reads_declareds v.declared).need s.need); reads = go }
-  where
-    go : (n : ℕ) (us : List Token) → suc (max (reads_declareds v.declared).need s.need) ≤ n → AfterDeclarations us → p_declarations n (spelling.declarations keep (variables v ∷ ds) ++ us) ≡ took (variables v ∷ ds) us
-    go zero us h f = absurd (omega arith)
-    go (suc m) us h f =
-        let a = names_read v m (spelling.declarations keep ds ++ us) (omega arith) in
-        let b = s.reads m us (omega arith) f in
-        simp append_assoc (rw (a, b) refl)
+declaration_first (constant p x y q (integer k t) r) ds s = deeper s.need (λ m us h f. let b = s.reads m us (omega arith) f in rw b refl)
+declaration_first (constant p x y q (letter k t) r) ds s = deeper s.need (λ m us h f. let b = s.reads m us (omega arith) f in rw b refl)
+declaration_first (variables v) ds s = deeper (max (reads_declareds v.declared).need s.need) (λ m us h f.
+    let a = names_read v m (spelling.declarations keep ds ++ us) (omega arith) in
+    let b = s.reads m us (omega arith) f in
+    simp append_assoc (rw (a, b) refl))
 
 reads_declarations : (ds : List Declaration) → Reads p_declarations (spelling.declarations keep ds) ds AfterDeclarations
-reads_declarations [] = record { need = 1; reads = no_declarations }
+reads_declarations [] = deeper 0 (λ m us h f. let a = opens_nothing us f in rw (a.0, a.1) refl)
 reads_declarations (d ∷ ds) = declaration_first d ds (reads_declarations ds)
 
-no_locals : (n : ℕ) (us : List Token) → 1 ≤ n → AfterDeclarations us → p_locals n us ≡ took [] us
-no_locals zero us h f = absurd (omega arith)
-no_locals (suc m) us h f = let a = opens_nothing us f in rw a.1 refl
-
 locals_first : (v : Variables) (vs : List Variables) → Reads p_locals (spelling.local_variables keep vs) vs AfterDeclarations → Reads p_locals (spelling.local_variables keep (v ∷ vs)) (v ∷ vs) AfterDeclarations
-locals_first v vs s = record { need = suc (max (reads_declareds v.declared).need s.need); reads = go }
-  where
-    go : (n : ℕ) (us : List Token) → suc (max (reads_declareds v.declared).need s.need) ≤ n → AfterDeclarations us → p_locals n (spelling.local_variables keep (v ∷ vs) ++ us) ≡ took (v ∷ vs) us
-    go zero us h f = absurd (omega arith)
-    go (suc m) us h f =
-        let a = names_read v m (spelling.local_variables keep vs ++ us) (omega arith) in
-        let b = s.reads m us (omega arith) f in
-        simp append_assoc (rw (a, b) refl)
+locals_first v vs s = deeper (max (reads_declareds v.declared).need s.need) (λ m us h f.
+    let a = names_read v m (spelling.local_variables keep vs ++ us) (omega arith) in
+    let b = s.reads m us (omega arith) f in
+    simp append_assoc (rw (a, b) refl))
 
 reads_locals : (vs : List Variables) → Reads p_locals (spelling.local_variables keep vs) vs AfterDeclarations
-reads_locals [] = record { need = 1; reads = no_locals }
+reads_locals [] = deeper 0 (λ m us h f. let a = opens_nothing us f in rw a.1 refl)
 reads_locals (v ∷ vs) = locals_first v vs (reads_locals vs)
 
 abbrev AfterParameters : List Token → Type 0
@@ -99,27 +70,19 @@ AfterParameters us = is_front sym.CloseParenthesis us ≡ true
 closes_nothing : (us : List Token) → AfterParameters us → (Not sym.Comma us × Not sym.OpenBracket us) × (eqb (front us) a_name ≡ false)
 closes_nothing us f = let P : ℕ → Type 0 = λ n. ((eqb n 29 ≡ false) × (eqb n 33 ≡ false)) × (eqb n 40 ≡ false) in subst P (sym (true-eqb (front us) 32 (sym f))) ((refl, refl), refl)
 
-no_others : (n : ℕ) (us : List Token) → 1 ≤ n → AfterParameters us → p_others n us ≡ took [] us
-no_others zero us h f = absurd (omega arith)
-no_others (suc m) us h f = let a = closes_nothing us f in rw a.0.0 refl
-
 no_bracket : (xs : List (At × Parameter)) (us : List Token) → AfterParameters us → Not sym.OpenBracket (spelling.other_parameters keep xs ++ us)
 no_bracket [] us f = (closes_nothing us f).0.1
 no_bracket (x ∷ xs) us f = refl
 
 others_first : (x : At × Parameter) (xs : List (At × Parameter)) → Reads p_others (spelling.other_parameters keep xs) xs AfterParameters → Reads p_others (spelling.other_parameters keep (x ∷ xs)) (x ∷ xs) AfterParameters
-others_first x xs s = record { need = suc s.need; reads = go }
-  where
-    go : (n : ℕ) (us : List Token) → suc s.need ≤ n → AfterParameters us → p_others n (spelling.other_parameters keep (x ∷ xs) ++ us) ≡ took (x ∷ xs) us
-    go zero us h f = absurd (omega arith)
-    go (suc m) us h f =
-        let w = append_assoc (spelling.declared keep x.1.declared) (spelling.other_parameters keep xs) us in
-        let a = declared_reads x.1.declared (spelling.other_parameters keep xs ++ us) (no_bracket xs us f) in
-        let b = s.reads m us (omega arith) f in
-        ap (λ l. p_others (suc m) (spelling.sign keep 0 sym.Comma x.0 ∷ (spelling.named keep 0 x.1.kind ∷ l))) w ∙ rw (a, b) refl
+others_first x xs s = deeper s.need (λ m us h f.
+    let w = append_assoc (spelling.declared keep x.1.declared) (spelling.other_parameters keep xs) us in
+    let a = declared_reads x.1.declared (spelling.other_parameters keep xs ++ us) (no_bracket xs us f) in
+    let b = s.reads m us (omega arith) f in
+    ap (λ l. p_others (suc m) (spelling.sign keep 0 sym.Comma x.0 ∷ (spelling.named keep 0 x.1.kind ∷ l))) w ∙ rw (a, b) refl)
 
 reads_others : (xs : List (At × Parameter)) → Reads p_others (spelling.other_parameters keep xs) xs AfterParameters
-reads_others [] = record { need = 1; reads = no_others }
+reads_others [] = deeper 0 (λ m us h f. let a = closes_nothing us f in rw a.0.0 refl)
 reads_others (x ∷ xs) = others_first x xs (reads_others xs)
 
 reads_parameters : (xs : Parameters) → Reads p_parameters (spelling.parameter_list keep xs) xs AfterParameters
@@ -171,10 +134,6 @@ method_reads m (typed t) b n us h =
 abbrev AfterMethods : List Token → Type 0
 AfterMethods us = is_front sym.CloseBrace us ≡ true
 
-no_methods : (n : ℕ) (us : List Token) → 1 ≤ n → AfterMethods us → p_methods n us ≡ took [] us
-no_methods zero us h f = absurd (omega arith)
-no_methods (suc m) us h f = rw f refl
-
 methods_first : (x : Method) (r : ResultType) (xs : List Method) → ReadsBody x.body → Reads p_methods (spelling.methods keep xs) xs AfterMethods → Reads p_methods (spelling.methods keep (method_first x r ∷ xs)) (method_first x r ∷ xs) AfterMethods
 methods_first x r xs b s = record { need = suc (max (method_need x b.need) s.need); reads = go r }
   where
@@ -192,7 +151,7 @@ methods_first x r xs b s = record { need = suc (max (method_need x b.need) s.nee
         ap (p_methods (suc m)) w ∙ rw (a, c) refl
 
 reads_methods : (xs : List Method) → nearest_in xs ≡ true → Reads p_methods (spelling.methods keep xs) xs AfterMethods
-reads_methods [] h = record { need = 1; reads = no_methods }
+reads_methods [] h = deeper 0 (λ m us l f. rw f refl)
 reads_methods (x ∷ xs) h = let a = split (nearest_all x.body) (nearest_in xs) h in methods_first x x.result xs (reads_statements x.body 1 a.0) (reads_methods xs a.1)
 
 abbrev program_need : Program → ℕ → ℕ

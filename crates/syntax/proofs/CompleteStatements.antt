@@ -9,7 +9,7 @@ use Rattle.syntax.specs.Trees.{At, Addop, plus, minus, Expr, Designator, whole, 
 use Rattle.syntax.specs.Spelling as spelling
 use Rattle.syntax.proofs.Fronts.{a_name, front, is_front, begins_expr, begins_statement}
 use Rattle.syntax.proofs.Parser.{took, p_e, p_comparison, p_conjunction, p_condition, p_s, p_ss}
-use Rattle.syntax.proofs.Complete.{keep, Reads, Not, AfterExpr, starts_expr, front_designator, reads_e, reads_d, reads_as}
+use Rattle.syntax.proofs.Complete.{keep, Reads, deeper, Not, AfterExpr, starts_expr, front_designator, reads_e, reads_d, reads_as}
 
 abbrev compared : Expr → Relation → At → Expr → Comparison
 compared a o p b = record { left = a; relation = o; relation_at = p; right = b }
@@ -58,54 +58,38 @@ abbrev AfterCondition : List Token → Type 0
 AfterCondition us = AfterConjunction us × Not sym.Or us
 
 single_reads : (c : Comparison) (l : ℕ) → Reads p_comparison (spelling.comparison keep c l) c AfterExpr → Reads p_conjunction (spelling.conjunction keep (single c) l) (single c) AfterConjunction
-single_reads c l r = record { need = suc r.need; reads = go }
-  where
-    go : (n : ℕ) (us : List Token) → suc r.need ≤ n → AfterConjunction us → p_conjunction n (spelling.conjunction keep (single c) l ++ us) ≡ took (single c) us
-    go zero us h f = absurd (omega arith)
-    go (suc m) us h f =
-        let a = r.reads m us (omega arith) f.0 in
-        rw (a, f.1) refl
+single_reads c l r = deeper r.need (λ m us h f.
+    let a = r.reads m us (omega arith) f.0 in
+    rw (a, f.1) refl)
 
 both_reads :
     (c : Comparison) (p : At) (k : Conjunction) (l : ℕ) → Reads p_comparison (spelling.comparison keep c l) c AfterExpr → Reads p_conjunction (spelling.conjunction keep k l) k AfterConjunction →
     Reads p_conjunction (spelling.conjunction keep (both c p k) l) (both c p k) AfterConjunction
-both_reads c p k l r s = record { need = suc (max r.need s.need); reads = go }
-  where
-    go : (n : ℕ) (us : List Token) → suc (max r.need s.need) ≤ n → AfterConjunction us → p_conjunction n (spelling.conjunction keep (both c p k) l ++ us) ≡ took (both c p k) us
-    go zero us h f = absurd (omega arith)
-    go (suc m) us h f =
-        let t = spelling.sign keep 0 sym.And p ∷ (spelling.conjunction keep k l ++ us) in
-        let e : spelling.conjunction keep (both c p k) l ++ us ≡ spelling.comparison keep c l ++ t = append_assoc (spelling.comparison keep c l) (spelling.sign keep 0 sym.And p ∷ spelling.conjunction keep k l) us in
-        let a = r.reads m t (omega arith) (((refl, refl), refl, refl, refl), refl, refl) in
-        let b = s.reads m us (omega arith) f in
-        rw (e, a, b) refl
+both_reads c p k l r s = deeper (max r.need s.need) (λ m us h f.
+    let t = spelling.sign keep 0 sym.And p ∷ (spelling.conjunction keep k l ++ us) in
+    let e : spelling.conjunction keep (both c p k) l ++ us ≡ spelling.comparison keep c l ++ t = append_assoc (spelling.comparison keep c l) (spelling.sign keep 0 sym.And p ∷ spelling.conjunction keep k l) us in
+    let a = r.reads m t (omega arith) (((refl, refl), refl, refl, refl), refl, refl) in
+    let b = s.reads m us (omega arith) f in
+    rw (e, a, b) refl)
 
 reads_conjunction : (k : Conjunction) (l : ℕ) → Reads p_conjunction (spelling.conjunction keep k l) k AfterConjunction
 reads_conjunction (single c) l = single_reads c l (reads_comparison c l)
 reads_conjunction (both c p k) l = both_reads c p k l (reads_comparison c l) (reads_conjunction k l)
 
 only_reads : (k : Conjunction) (l : ℕ) → Reads p_conjunction (spelling.conjunction keep k l) k AfterConjunction → Reads p_condition (spelling.condition keep (only k) l) (only k) AfterCondition
-only_reads k l r = record { need = suc r.need; reads = go }
-  where
-    go : (n : ℕ) (us : List Token) → suc r.need ≤ n → AfterCondition us → p_condition n (spelling.condition keep (only k) l ++ us) ≡ took (only k) us
-    go zero us h f = absurd (omega arith)
-    go (suc m) us h f =
-        let a = r.reads m us (omega arith) f.0 in
-        rw (a, f.1) refl
+only_reads k l r = deeper r.need (λ m us h f.
+    let a = r.reads m us (omega arith) f.0 in
+    rw (a, f.1) refl)
 
 either_reads :
     (k : Conjunction) (p : At) (c : Condition) (l : ℕ) → Reads p_conjunction (spelling.conjunction keep k l) k AfterConjunction → Reads p_condition (spelling.condition keep c l) c AfterCondition →
     Reads p_condition (spelling.condition keep (either k p c) l) (either k p c) AfterCondition
-either_reads k p c l r s = record { need = suc (max r.need s.need); reads = go }
-  where
-    go : (n : ℕ) (us : List Token) → suc (max r.need s.need) ≤ n → AfterCondition us → p_condition n (spelling.condition keep (either k p c) l ++ us) ≡ took (either k p c) us
-    go zero us h f = absurd (omega arith)
-    go (suc m) us h f =
-        let t = spelling.sign keep 0 sym.Or p ∷ (spelling.condition keep c l ++ us) in
-        let e : spelling.condition keep (either k p c) l ++ us ≡ spelling.conjunction keep k l ++ t = append_assoc (spelling.conjunction keep k l) (spelling.sign keep 0 sym.Or p ∷ spelling.condition keep c l) us in
-        let a = r.reads m t (omega arith) ((((refl, refl), refl, refl, refl), refl, refl), refl) in
-        let b = s.reads m us (omega arith) f in
-        rw (e, a, b) refl
+either_reads k p c l r s = deeper (max r.need s.need) (λ m us h f.
+    let t = spelling.sign keep 0 sym.Or p ∷ (spelling.condition keep c l ++ us) in
+    let e : spelling.condition keep (either k p c) l ++ us ≡ spelling.conjunction keep k l ++ t = append_assoc (spelling.conjunction keep k l) (spelling.sign keep 0 sym.Or p ∷ spelling.condition keep c l) us in
+    let a = r.reads m t (omega arith) ((((refl, refl), refl, refl, refl), refl, refl), refl) in
+    let b = s.reads m us (omega arith) f in
+    rw (e, a, b) refl)
 
 reads_condition : (c : Condition) (l : ℕ) → Reads p_condition (spelling.condition keep c l) c AfterCondition
 reads_condition (only k) l = only_reads k l (reads_conjunction k l)
@@ -159,31 +143,23 @@ abbrev semi : At → List Token → List Token
 semi q us = spelling.sign keep 0 sym.Semicolon q ∷ us
 
 assign_reads : (d : Designator) (p : At) (e : Expr) (q : At) (l : ℕ) → ReadsS (assign d p e q) l
-assign_reads d p e q l = record { need = suc (max (reads_d d l l).need (reads_e e l).need); reads = go }
-  where
-    go : At-depth (assign d p e q) l (suc (max (reads_d d l l).need (reads_e e l).need))
-    go zero us h f = absurd (omega arith)
-    go (suc m) us h f =
-        let t = spelling.sign keep 0 sym.Assign p ∷ (spelling.expr keep e l ++ semi q us) in
-        let w : spelling.statement keep (assign d p e q) l ++ us ≡ spelling.designator keep d l l ++ t = simp append_assoc in
-        let a = (reads_d d l l).reads m t (omega arith) refl in
-        let b = (reads_e e l).reads m (semi q us) (omega arith) (((refl, refl), refl, refl, refl), refl, refl) in
-        let c = front_designator d l l t in
-        rw (w, c, a, b) refl
+assign_reads d p e q l = deeper (max (reads_d d l l).need (reads_e e l).need) (λ m us h f.
+    let t = spelling.sign keep 0 sym.Assign p ∷ (spelling.expr keep e l ++ semi q us) in
+    let w : spelling.statement keep (assign d p e q) l ++ us ≡ spelling.designator keep d l l ++ t = simp append_assoc in
+    let a = (reads_d d l l).reads m t (omega arith) refl in
+    let b = (reads_e e l).reads m (semi q us) (omega arith) (((refl, refl), refl, refl, refl), refl, refl) in
+    let c = front_designator d l l t in
+    rw (w, c, a, b) refl)
 
 invoke_reads : (d : Designator) (p : At) (xs : Arguments) (q r : At) (l : ℕ) → ReadsS (invoke d p xs q r) l
-invoke_reads d p xs q r l = record { need = suc (max (reads_d d l l).need (reads_as xs l).need); reads = go }
-  where
-    go : At-depth (invoke d p xs q r) l (suc (max (reads_d d l l).need (reads_as xs l).need))
-    go zero us h f = absurd (omega arith)
-    go (suc m) us h f =
-        let z = spelling.sign keep 0 sym.CloseParenthesis q ∷ semi r us in
-        let t = spelling.sign keep 0 sym.OpenParenthesis p ∷ (spelling.argument_list keep xs l ++ z) in
-        let w : spelling.statement keep (invoke d p xs q r) l ++ us ≡ spelling.designator keep d l l ++ t = simp append_assoc in
-        let a = (reads_d d l l).reads m t (omega arith) refl in
-        let b = (reads_as xs l).reads m z (omega arith) refl in
-        let c = front_designator d l l t in
-        rw (w, c, a, b) refl
+invoke_reads d p xs q r l = deeper (max (reads_d d l l).need (reads_as xs l).need) (λ m us h f.
+    let z = spelling.sign keep 0 sym.CloseParenthesis q ∷ semi r us in
+    let t = spelling.sign keep 0 sym.OpenParenthesis p ∷ (spelling.argument_list keep xs l ++ z) in
+    let w : spelling.statement keep (invoke d p xs q r) l ++ us ≡ spelling.designator keep d l l ++ t = simp append_assoc in
+    let a = (reads_d d l l).reads m t (omega arith) refl in
+    let b = (reads_as xs l).reads m z (omega arith) refl in
+    let c = front_designator d l l t in
+    rw (w, c, a, b) refl)
 
 step_reads : (d : Designator) (o : Addop) (p q : At) (l : ℕ) → ReadsS (step d o p q) l
 step_reads d o p q l = record { need = suc (reads_d d l l).need; reads = go o }
@@ -211,15 +187,11 @@ head_reads :
 head_reads c r l m us h = (reads_condition c l).reads m (spelling.sign keep 0 sym.CloseParenthesis r ∷ us) h (((((refl, refl), refl, refl, refl), refl, refl), refl), refl)
 
 when_reads : (p q : At) (c : Condition) (r : At) (s : Statement) (l : ℕ) → ReadsS s (suc l) → ReadsS (when p q c r s) l
-when_reads p q c r s l x = record { need = suc (max (reads_condition c l).need x.need); reads = go }
-  where
-    go : At-depth (when p q c r s) l (suc (max (reads_condition c l).need x.need))
-    go zero us h f = absurd (omega arith)
-    go (suc m) us h f =
-        let a = head_reads c r l m (spelling.statement keep s (suc l) ++ us) (omega arith) in
-        let b = x.reads m us (omega arith) (λ _. f refl) in
-        let g = f refl in
-        simp append_assoc (rw (a, b, g) refl)
+when_reads p q c r s l x = deeper (max (reads_condition c l).need x.need) (λ m us h f.
+    let a = head_reads c r l m (spelling.statement keep s (suc l) ++ us) (omega arith) in
+    let b = x.reads m us (omega arith) (λ _. f refl) in
+    let g = f refl in
+    simp append_assoc (rw (a, b, g) refl))
 
 choose_reads : (p q : At) (c : Condition) (r : At) (s : Statement) (y : At) (t : Statement) (l : ℕ) → closed s ≡ true → ReadsS s (suc l) → ReadsS t (suc l) → ReadsS (choose p q c r s y t) l
 choose_reads p q c r s y t l k x z = record { need = suc (max (reads_condition c l).need (max x.need z.need)); reads = go }
@@ -237,107 +209,63 @@ choose_reads p q c r s y t l k x z = record { need = suc (max (reads_condition c
         simp append_assoc (rw (a, b, d) refl)
 
 while_reads : (p q : At) (c : Condition) (r : At) (s : Statement) (l : ℕ) → ReadsS s (suc l) → ReadsS (while p q c r s) l
-while_reads p q c r s l x = record { need = suc (max (reads_condition c l).need x.need); reads = go }
-  where
-    go : At-depth (while p q c r s) l (suc (max (reads_condition c l).need x.need))
-    go zero us h f = absurd (omega arith)
-    go (suc m) us h f =
-        let a = head_reads c r l m (spelling.statement keep s (suc l) ++ us) (omega arith) in
-        let b = x.reads m us (omega arith) f in
-        simp append_assoc (rw (a, b) refl)
+while_reads p q c r s l x = deeper (max (reads_condition c l).need x.need) (λ m us h f.
+    let a = head_reads c r l m (spelling.statement keep s (suc l) ++ us) (omega arith) in
+    let b = x.reads m us (omega arith) f in
+    simp append_assoc (rw (a, b) refl))
 
 break_reads : (p q : At) (l : ℕ) → ReadsS (break p q) l
-break_reads p q l = record { need = 1; reads = go }
-  where
-    go : At-depth (break p q) l 1
-    go zero us h f = absurd (omega arith)
-    go (suc m) us h f = refl
+break_reads p q l = deeper 0 (λ m us h f. refl)
 
 return_reads : (p q : At) (l : ℕ) → ReadsS (return p q) l
-return_reads p q l = record { need = 1; reads = go }
-  where
-    go : At-depth (return p q) l 1
-    go zero us h f = absurd (omega arith)
-    go (suc m) us h f = refl
+return_reads p q l = deeper 0 (λ m us h f. refl)
 
 not_semi : (us : List Token) → begins_expr (front us) ≡ true → Not sym.Semicolon us
 not_semi us b = grind (arith, nat_tests)
 
 give_reads : (p : At) (e : Expr) (q : At) (l : ℕ) → ReadsS (give p e q) l
-give_reads p e q l = record { need = suc (reads_e e l).need; reads = go }
-  where
-    go : At-depth (give p e q) l (suc (reads_e e l).need)
-    go zero us h f = absurd (omega arith)
-    go (suc m) us h f =
-        let a = (reads_e e l).reads m (semi q us) (omega arith) (((refl, refl), refl, refl, refl), refl, refl) in
-        let c = not_semi (spelling.expr keep e l ++ semi q us) (starts_expr e l (semi q us)) in
-        rw (append_assoc, c, a) refl
+give_reads p e q l = deeper (reads_e e l).need (λ m us h f.
+    let a = (reads_e e l).reads m (semi q us) (omega arith) (((refl, refl), refl, refl, refl), refl, refl) in
+    let c = not_semi (spelling.expr keep e l ++ semi q us) (starts_expr e l (semi q us)) in
+    rw (append_assoc, c, a) refl)
 
 read_reads : (p q : At) (d : Designator) (r s : At) (l : ℕ) → ReadsS (read p q d r s) l
-read_reads p q d r s l = record { need = suc (reads_d d l 0).need; reads = go }
-  where
-    go : At-depth (read p q d r s) l (suc (reads_d d l 0).need)
-    go zero us h f = absurd (omega arith)
-    go (suc m) us h f =
-        let a = (reads_d d l 0).reads m (spelling.sign keep 0 sym.CloseParenthesis r ∷ semi s us) (omega arith) refl in
-        rw (append_assoc, a) refl
+read_reads p q d r s l = deeper (reads_d d l 0).need (λ m us h f.
+    let a = (reads_d d l 0).reads m (spelling.sign keep 0 sym.CloseParenthesis r ∷ semi s us) (omega arith) refl in
+    rw (append_assoc, a) refl)
 
 print_reads : (p q : At) (e : Expr) (r s : At) (l : ℕ) → ReadsS (print p q e r s) l
-print_reads p q e r s l = record { need = suc (reads_e e l).need; reads = go }
-  where
-    go : At-depth (print p q e r s) l (suc (reads_e e l).need)
-    go zero us h f = absurd (omega arith)
-    go (suc m) us h f =
-        let a = (reads_e e l).reads m (spelling.sign keep 0 sym.CloseParenthesis r ∷ semi s us) (omega arith) (((refl, refl), refl, refl, refl), refl, refl) in
-        rw (append_assoc, a) refl
+print_reads p q e r s l = deeper (reads_e e l).need (λ m us h f.
+    let a = (reads_e e l).reads m (spelling.sign keep 0 sym.CloseParenthesis r ∷ semi s us) (omega arith) (((refl, refl), refl, refl, refl), refl, refl) in
+    rw (append_assoc, a) refl)
 
 print_wide_reads : (p q : At) (e : Expr) (r : At) (w : ℕ) (s t u : At) (l : ℕ) → ReadsS (print_wide p q e r w s t u) l
-print_wide_reads p q e r w s t u l = record { need = suc (reads_e e l).need; reads = go }
-  where
-    go : At-depth (print_wide p q e r w s t u) l (suc (reads_e e l).need)
-    go zero us h f = absurd (omega arith)
-    go (suc m) us h f =
-        let a = (reads_e e l).reads m (spelling.sign keep 0 sym.Comma r ∷ (token (number w) s ∷ (spelling.sign keep 0 sym.CloseParenthesis t ∷ semi u us))) (omega arith) (((refl, refl), refl, refl, refl), refl, refl) in
-        rw (append_assoc, a) refl
+print_wide_reads p q e r w s t u l = deeper (reads_e e l).need (λ m us h f.
+    let a = (reads_e e l).reads m (spelling.sign keep 0 sym.Comma r ∷ (token (number w) s ∷ (spelling.sign keep 0 sym.CloseParenthesis t ∷ semi u us))) (omega arith) (((refl, refl), refl, refl, refl), refl, refl) in
+    rw (append_assoc, a) refl)
 
 block_reads : (p : At) (ss : Statements) (q : At) (l : ℕ) → Reads p_ss (spelling.statements keep ss (suc l)) ss ClosesBlock → ReadsS (block p ss q) l
-block_reads p ss q l x = record { need = suc x.need; reads = go }
-  where
-    go : At-depth (block p ss q) l (suc x.need)
-    go zero us h f = absurd (omega arith)
-    go (suc m) us h f =
-        let a = x.reads m (spelling.sign keep 0 sym.CloseBrace q ∷ us) (omega arith) refl in
-        rw (append_assoc, a) refl
+block_reads p ss q l x = deeper x.need (λ m us h f.
+    let a = x.reads m (spelling.sign keep 0 sym.CloseBrace q ∷ us) (omega arith) refl in
+    rw (append_assoc, a) refl)
 
 empty_reads : (p : At) (l : ℕ) → ReadsS (empty p) l
-empty_reads p l = record { need = 1; reads = go }
-  where
-    go : At-depth (empty p) l 1
-    go zero us h f = absurd (omega arith)
-    go (suc m) us h f = refl
+empty_reads p l = deeper 0 (λ m us h f. refl)
 
 none_reads : (l : ℕ) → Reads p_ss (spelling.statements keep none l) none ClosesBlock
-none_reads l = record { need = 1; reads = go }
-  where
-    go : (n : ℕ) (us : List Token) → 1 ≤ n → ClosesBlock us → p_ss n us ≡ took none us
-    go zero us h f = absurd (omega arith)
-    go (suc m) us h f = rw f refl
+none_reads l = deeper 0 (λ m us h f. rw f refl)
 
 no_else_behind : (ss : Statements) (l : ℕ) (us : List Token) → ClosesBlock us → Not sym.Else (spelling.statements keep ss l ++ us)
 no_else_behind none l us c = brace_no_else us c
 no_else_behind (and_then s ss) l us c = rw append_assoc (statement_no_else (spelling.statement keep s l ++ (spelling.statements keep ss l ++ us)) (starts_statement s l (spelling.statements keep ss l ++ us))).0
 
 and_then_reads : (s : Statement) (ss : Statements) (l : ℕ) → ReadsS s l → Reads p_ss (spelling.statements keep ss l) ss ClosesBlock → Reads p_ss (spelling.statements keep (and_then s ss) l) (and_then s ss) ClosesBlock
-and_then_reads s ss l x z = record { need = suc (max x.need z.need); reads = go }
-  where
-    go : (n : ℕ) (us : List Token) → suc (max x.need z.need) ≤ n → ClosesBlock us → p_ss n (spelling.statements keep (and_then s ss) l ++ us) ≡ took (and_then s ss) us
-    go zero us h f = absurd (omega arith)
-    go (suc m) us h f =
-        let v = spelling.statements keep ss l ++ us in
-        let a = x.reads m v (omega arith) (λ _. no_else_behind ss l us f) in
-        let b = z.reads m us (omega arith) f in
-        let c = (statement_no_else (spelling.statement keep s l ++ v) (starts_statement s l v)).1 in
-        rw (append_assoc, c, a, b) refl
+and_then_reads s ss l x z = deeper (max x.need z.need) (λ m us h f.
+    let v = spelling.statements keep ss l ++ us in
+    let a = x.reads m v (omega arith) (λ _. no_else_behind ss l us f) in
+    let b = z.reads m us (omega arith) f in
+    let c = (statement_no_else (spelling.statement keep s l ++ v) (starts_statement s l v)).1 in
+    rw (append_assoc, c, a, b) refl)
 
 pub split : (a b : Bool) → (a && b) ≡ true → (a ≡ true) × (b ≡ true)
 split true b h = (refl, h)

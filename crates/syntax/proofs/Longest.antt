@@ -1,10 +1,11 @@
 -- Which front of the bytes is their longest lexeme, class by class; `best` computes it.
-use Rattle.std.proofs.Common.{◌≡◌, ℕ, zero, suc, ◌+◌, ◌<◌, ◌≤◌, Bool, true, false, cond, not, ◌&&◌, eqb, ◌⊎◌, List, [], ◌∷◌, length, take, is_some, sym, refl, ◌∙◌, subst, ⊎_elim, arith}
-use Rattle.std.specs.List.{prefix_len}
+use Rattle.std.proofs.Common.{◌≡◌, ℕ, zero, suc, ◌+◌, ◌<◌, ◌≤◌, Bool, true, false, cond, not, eqb, ◌⊎◌, List, [], ◌∷◌, length, take, is_some, sym, refl, ◌∙◌, subst, ⊎_elim, arith}
+use Rattle.std.specs.List.{prefix_len, list_all}
 use Rattle.std.proofs.lemmas.List.{length-take-le}
-use Rattle.std.proofs.lemmas.Bool.{eqb-true, both_ways, and_parts, and_from, and_left, and_right, cond-false}
-use Rattle.syntax.specs.Lexemes.{is_letter, is_digit, is_name_part, is_blank, plain, all, Class, blank, comment, namelike, numeric, quotation, operator, is, Lexeme, Longest, NoLexeme}
-use Rattle.syntax.proofs.Classes.{no_from, by_first, first_letter, first_digit, first_blank, first_quote, not_slash, class_first, quoted_some, quoted_value, operators_short, constants_short, class_is, none_empty}
+use Rattle.std.proofs.lemmas.Bool.{eqb-true, both_ways, false_from_ne_true, and_parts, and_from, and_left, and_right, cond-false}
+use Rattle.std.proofs.Math.Bool.{and-true}
+use Rattle.syntax.specs.Lexemes.{is_letter, is_digit, is_name_part, is_blank, plain, Class, blank, comment, namelike, numeric, quotation, operator, is, Lexeme, Longest, NoLexeme}
+use Rattle.syntax.proofs.Classes.{by_first, first_letter, first_digit, first_blank, first_quote, not_slash, class_first, quoted_some, quoted_value, operators_short, constants_short, class_is, none_empty}
 
 abbrev pub in_line : ℕ → Bool
 in_line b = not (eqb b 10)
@@ -15,20 +16,20 @@ lexeme c n = record { class = c; size = n }
 -- n bytes pass the test, and the next does not
 pub record Run (test : ℕ → Bool) (bs : List ℕ) (n : ℕ) : Type 0 where
   pub within : n ≤ length bs
-  pub passes : all test (take n bs) ≡ true
-  pub stops : (m : ℕ) → n < m → m ≤ length bs → all test (take m bs) ≡ false
+  pub passes : list_all test (take n bs) ≡ true
+  pub stops : (m : ℕ) → n < m → m ≤ length bs → list_all test (take m bs) ≡ false
 
 pub run_more : (test : ℕ → Bool) (b : ℕ) (bs : List ℕ) (n : ℕ) → test b ≡ true → Run test bs n → Run test (b ∷ bs) (suc n)
 run_more test b bs n h r = record { within = omega (arith, r.within); passes = and_from _ _ h r.passes; stops = stops }
   where
-    stops : (m : ℕ) → suc n < m → m ≤ length (b ∷ bs) → all test (take m (b ∷ bs)) ≡ false
+    stops : (m : ℕ) → suc n < m → m ≤ length (b ∷ bs) → list_all test (take m (b ∷ bs)) ≡ false
     stops zero l g = absurd (omega arith)
     stops (suc m) l g = and_right (test b) _ (r.stops m (omega arith) (omega arith))
 
 pub run_none : (test : ℕ → Bool) (b : ℕ) (bs : List ℕ) → test b ≡ false → Run test (b ∷ bs) 0
 run_none test b bs h = record { within = omega arith; passes = refl; stops = stops }
   where
-    stops : (m : ℕ) → 0 < m → m ≤ length (b ∷ bs) → all test (take m (b ∷ bs)) ≡ false
+    stops : (m : ℕ) → 0 < m → m ≤ length (b ∷ bs) → list_all test (take m (b ∷ bs)) ≡ false
     stops zero l g = absurd (omega arith)
     stops (suc m) l g = and_left (test b) _ h
 
@@ -49,7 +50,7 @@ decided :
     ((m : ℕ) → k < suc m → m ≤ length bs → is c (b ∷ take m bs) ≡ true → ⊥) → (n : ℕ) (d : Class) → k < n → n ≤ length (b ∷ bs) → is d (take n (b ∷ bs)) ≡ false
 decided b bs c k e s no_longer zero d l g = absurd (omega arith)
 decided b bs c k e s no_longer (suc m) d l g =
-    no_from _ (λ h. no_longer m l (omega arith) (subst (λ (x : Class). is x (b ∷ take m bs) ≡ true) (sym (class_is d _ h) ∙ class_first b _ c e s) h))
+    false_from_ne_true _ (λ h. no_longer m l (omega arith) (subst (λ (x : Class). is x (b ∷ take m bs) ≡ true) (sym (class_is d _ h) ∙ class_first b _ c e s) h))
 
 pub name_longest : (b : ℕ) (bs : List ℕ) (n : ℕ) → is_letter b ≡ true → Run is_name_part bs n → Longest (b ∷ bs) (lexeme namelike (suc n))
 name_longest b bs n h r = record {
@@ -83,14 +84,10 @@ comment_longest bs n r = record { within = omega (arith, r.within); lexeme = r.p
     longest zero d l g = absurd (omega arith)
     longest (suc zero) d l g = absurd (omega arith)
     longest (suc (suc m)) d l g =
-        no_from _ (λ h.
-        let o : d ≡ operator = sym (class_is d (47 ∷ 47 ∷ take m bs) h) ∙ cond-false (all in_line (take m bs)) comment operator (r.stops m (omega arith) (omega arith)) in
+        false_from_ne_true _ (λ h.
+        let o : d ≡ operator = sym (class_is d (47 ∷ 47 ∷ take m bs) h) ∙ cond-false (list_all in_line (take m bs)) comment operator (r.stops m (omega arith) (omega arith)) in
         let short : length (47 ∷ 47 ∷ take m bs) ≤ 2 = operators_short (47 ∷ 47 ∷ take m bs) (subst (λ (x : Class). is x (47 ∷ 47 ∷ take m bs) ≡ true) o h) in
         omega (arith, length-take-le m bs (omega arith)))
-
-and_true : (t : Bool) → (t && true) ≡ false → t ≡ false
-and_true true h = h
-and_true false h = refl
 
 -- where an operator can begin and no comment does, every lexeme is an operator
 only_operators :
@@ -99,7 +96,7 @@ only_operators b bs zero d e s h = absurd (both_ways _ (none_empty d) h)
 only_operators b [] (suc zero) d e s h = sym (class_is d (b ∷ []) h) ∙ e
 only_operators b [] (suc (suc n)) d e s h = sym (class_is d (b ∷ []) h) ∙ e
 only_operators b (c ∷ cs) (suc zero) d e s h = sym (class_is d (b ∷ []) h) ∙ e
-only_operators b (c ∷ cs) (suc (suc n)) d e s h = sym (class_is d (b ∷ c ∷ take n cs) h) ∙ cond-false (is comment (b ∷ c ∷ take n cs)) comment (by_first b) (and_left _ _ (and_true _ s)) ∙ e
+only_operators b (c ∷ cs) (suc (suc n)) d e s h = sym (class_is d (b ∷ c ∷ take n cs) h) ∙ cond-false (is comment (b ∷ c ∷ take n cs)) comment (by_first b) (and_left _ _ (sym (and-true _) ∙ s)) ∙ e
 
 pub operator_longest :
     (b : ℕ) (bs : List ℕ) (k : ℕ) → by_first b ≡ operator → is comment (take 2 (b ∷ bs)) ≡ false → k ≤ length (b ∷ bs) → is operator (take k (b ∷ bs)) ≡ true →
@@ -107,7 +104,7 @@ pub operator_longest :
 operator_longest b bs k e s w h two some = record {
   within = w;
   lexeme = h;
-  longest = λ n d l g. no_from _ (λ i. longer n l g (subst (λ (x : Class). is x (take n (b ∷ bs)) ≡ true) (only_operators b bs n d e s i) i));
+  longest = λ n d l g. false_from_ne_true _ (λ i. longer n l g (subst (λ (x : Class). is x (take n (b ∷ bs)) ≡ true) (only_operators b bs n d e s i) i));
 }
   where
     longer : (n : ℕ) → k < n → n ≤ length (b ∷ bs) → is operator (take n (b ∷ bs)) ≡ true → ⊥
@@ -119,7 +116,7 @@ operator_longest b bs k e s w h two some = record {
 pub operator_none :
     (b : ℕ) (bs : List ℕ) → by_first b ≡ operator → is comment (take 2 (b ∷ bs)) ≡ false → is operator (b ∷ []) ≡ false →
     (2 ≤ length (b ∷ bs) → is operator (take 2 (b ∷ bs)) ≡ false) → NoLexeme (b ∷ bs)
-operator_none b bs e s one two n d g = no_from _ (λ i. none n g (subst (λ (x : Class). is x (take n (b ∷ bs)) ≡ true) (only_operators b bs n d e s i) i))
+operator_none b bs e s one two n d g = false_from_ne_true _ (λ i. none n g (subst (λ (x : Class). is x (take n (b ∷ bs)) ≡ true) (only_operators b bs n d e s i) i))
   where
     none : (n : ℕ) → n ≤ length (b ∷ bs) → is operator (take n (b ∷ bs)) ≡ true → ⊥
     none zero g i = both_ways _ refl i
@@ -144,7 +141,7 @@ pub constant_longest :
 constant_longest b bs k e w h = record {
   within = w;
   lexeme = h;
-  longest = λ n d l g. no_from _ (λ i. longer n l g (subst (λ (x : Class). is x (take n (b ∷ bs)) ≡ true) (only_constants b bs n d e i) i));
+  longest = λ n d l g. false_from_ne_true _ (λ i. longer n l g (subst (λ (x : Class). is x (take n (b ∷ bs)) ≡ true) (only_constants b bs n d e i) i));
 }
   where
     three_four : (cs : List ℕ) → 4 ≤ length cs → is quotation (take 3 cs) ≡ true → is quotation (take 4 cs) ≡ true → ⊥
@@ -165,7 +162,7 @@ constant_longest b bs k e w h = record {
 pub constant_none :
     (b : ℕ) (bs : List ℕ) → eqb b 39 ≡ true → (3 ≤ length (b ∷ bs) → is quotation (take 3 (b ∷ bs)) ≡ false) → (4 ≤ length (b ∷ bs) → is quotation (take 4 (b ∷ bs)) ≡ false) →
     NoLexeme (b ∷ bs)
-constant_none b bs e three four n d g = no_from _ (λ i. none n g (subst (λ (x : Class). is x (take n (b ∷ bs)) ≡ true) (only_constants b bs n d e i) i))
+constant_none b bs e three four n d g = false_from_ne_true _ (λ i. none n g (subst (λ (x : Class). is x (take n (b ∷ bs)) ≡ true) (only_constants b bs n d e i) i))
   where
     none : (n : ℕ) → n ≤ length (b ∷ bs) → is quotation (take n (b ∷ bs)) ≡ true → ⊥
     none n g i =

@@ -148,4 +148,4 @@ scanned_cuts text ts h = cut (answer text) (answer_is text) h
   where
     cut : (r : Answer) → ScannedAs text r → result_ok r ≡ Some ts → Cuts text ts
     cut (Ok us) s e = subst (Cuts text) (let same : us ≡ ts = cc in same) s
-    cut (Err f) s e = absurd (let z : ◌≡◌ {A = ℕ} 0 1 = cc in omega arith)
+    cut (Err f) s e = absurd cc

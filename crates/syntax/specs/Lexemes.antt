@@ -1,6 +1,7 @@
 -- Lexemes: which bytes are a blank, a comment or a token, and which token.
 use Rattle.std.specs.Prelude.{◌≡◌, ℕ, ◌<◌, ◌≤◌, Bool, true, false, cond, not, ◌&&◌, ◌||◌, List, [], ◌∷◌, length, take, is_some, Some, None, codes, Option, ◌==◌, nat_le}
-use Rattle.std.specs.Option.{option_or}
+use Rattle.std.specs.List.{list_all}
+use Rattle.std.specs.Option.{option_map, option_or}
 use Rattle.std.specs.Str.{bytes_eq}
 use Rattle.words.specs.Laws.{worth}
 use Rattle.syntax.specs.declared.symbol.Symbol.{Symbol}
@@ -20,10 +21,6 @@ is_name_part b = is_letter b || (is_digit b || b == 95)
 -- tab, line feed, carriage return and space
 abbrev pub is_blank : ℕ → Bool
 is_blank b = (b == 9 || b == 10) || (b == 13 || b == 32)
-
-abbrev pub all : (ℕ → Bool) → List ℕ → Bool
-all test [] = true
-all test (b ∷ bs) = test b && all test bs
 
 -- a symbol and its bytes
 abbrev pub Spelt : Type 0
@@ -80,30 +77,22 @@ is blank (b ∷ c ∷ bs) = false
 -- two slashes, and anything up to the end of the line
 is comment [] = false
 is comment (a ∷ []) = false
-is comment (a ∷ b ∷ bs) = (a == 47 && b == 47) && all (λ c. not (c == 10)) bs
+is comment (a ∷ b ∷ bs) = (a == 47 && b == 47) && list_all (λ c. not (c == 10)) bs
 is namelike [] = false
-is namelike (b ∷ bs) = is_letter b && all is_name_part bs
+is namelike (b ∷ bs) = is_letter b && list_all is_name_part bs
 is numeric [] = false
-is numeric (b ∷ bs) = is_digit b && all is_digit bs
+is numeric (b ∷ bs) = is_digit b && list_all is_digit bs
 is quotation bs = is_some (constant bs)
 is operator bs = is_some (seek operators bs)
-
-abbrev pub character_for : (ℕ → TokenKind) → Option ℕ → Option TokenKind
-character_for make None = None
-character_for make (Some n) = Some (make n)
-
-abbrev pub symbol_for : Option Symbol → Option TokenKind
-symbol_for None = None
-symbol_for (Some s) = Some (symbol s)
 
 -- the token that a lexeme is: none for a blank or a comment; a keyword is no name
 abbrev pub token_of : Class → List ℕ → Option TokenKind
 token_of blank bs = None
 token_of comment bs = None
-token_of namelike bs = option_or (symbol_for (seek keywords bs)) (Some (name bs))
+token_of namelike bs = option_or (option_map symbol (seek keywords bs)) (Some (name bs))
 token_of numeric bs = Some (number (worth 0 bs))
-token_of quotation bs = character_for character (constant bs)
-token_of operator bs = symbol_for (seek operators bs)
+token_of quotation bs = option_map character (constant bs)
+token_of operator bs = option_map symbol (seek operators bs)
 
 -- a lexeme of a text: its class and how many bytes it has
 pub record Lexeme : Type 0 where

@@ -1,5 +1,6 @@
 -- What a tree spells: its tokens in order, and the level of the statement or expression that begins with each.
 use Rattle.std.specs.Prelude.{ℕ, suc, List, [], ◌∷◌, ◌++◌}
+use Rattle.std.specs.List.{flat_map}
 use Rattle.words.specs.declared.arithmetic.Relation.{Relation}
 use Rattle.words.specs.declared.arithmetic.Relation.TheVariants as relation
 use Rattle.syntax.specs.declared.symbol.Symbol.{Symbol}
@@ -132,15 +133,13 @@ module _ {A : Type 0} (put : ℕ → Token → A) where
   declaration (variables v) = variables_of v
 
   abbrev pub declarations : List Declaration → List A
-  declarations [] = []
-  declarations (d ∷ ds) = declaration d ++ declarations ds
+  declarations ds = flat_map declaration ds
 
   abbrev pub parameter : Parameter → List A
   parameter x = named 0 x.kind ∷ declared x.declared
 
   abbrev pub other_parameters : List (At × Parameter) → List A
-  other_parameters [] = []
-  other_parameters (x ∷ xs) = sign 0 sym.Comma x.0 ∷ (parameter x.1 ++ other_parameters xs)
+  other_parameters xs = flat_map (λ x. sign 0 sym.Comma x.0 ∷ parameter x.1) xs
 
   abbrev pub parameter_list : Parameters → List A
   parameter_list no_parameters = []
@@ -151,8 +150,7 @@ module _ {A : Type 0} (put : ℕ → Token → A) where
   result_type (typed x) = named 0 x
 
   abbrev pub local_variables : List Variables → List A
-  local_variables [] = []
-  local_variables (v ∷ vs) = variables_of v ++ local_variables vs
+  local_variables vs = flat_map variables_of vs
 
   -- the statements of a body stand at level 1
   abbrev pub method : Method → List A
@@ -160,8 +158,7 @@ module _ {A : Type 0} (put : ℕ → Token → A) where
       result_type m.result ∷ (named 0 m.name ∷ (sign 0 sym.OpenParenthesis m.opens ∷ (parameter_list m.takes ++ sign 0 sym.CloseParenthesis m.closes ∷ (local_variables m.locals ++ sign 0 sym.OpenBrace m.begins ∷ (statements m.body 1 ++ sign 0 sym.CloseBrace m.ends ∷ [])))))
 
   abbrev pub methods : List Method → List A
-  methods [] = []
-  methods (m ∷ ms) = method m ++ methods ms
+  methods ms = flat_map method ms
 
   abbrev pub program : Program → List A
   program t =

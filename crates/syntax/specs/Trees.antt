@@ -1,5 +1,6 @@
 -- Trees of the grammar, as it is written in docs/language.md. Every token stands in its tree; of a symbol only its position is kept.
-use Rattle.std.specs.Prelude.{ℕ, Bool, true, false, ◌&&◌, List, [], ◌∷◌}
+use Rattle.std.specs.Prelude.{ℕ, Bool, true, false, ◌&&◌, List}
+use Rattle.std.specs.List.{list_all}
 use Rattle.outcomes.specs.declared.Position.{Position}
 use Rattle.words.specs.declared.arithmetic.Relation.{Relation}
 
@@ -210,5 +211,4 @@ abbrev mutual
   nearest_all (and_then s ss) = nearest s && nearest_all ss
 
 abbrev pub nearest_in : List Method → Bool
-nearest_in [] = true
-nearest_in (m ∷ ms) = nearest_all m.body && nearest_in ms
+nearest_in ms = list_all (λ m. nearest_all m.body) ms

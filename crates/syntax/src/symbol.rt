@@ -1,5 +1,5 @@
 // Symbol is a keyword or an operator: a word that is always spelt alike.
-#[derive(Clone, Copy)]
+#[derive(Clone, Copy, PartialEq, Eq, Debug)]
 pub enum Symbol {
     Break,
     Class,

@@ -21,7 +21,7 @@ abbrev any : Program
 any = or_empty failed
 
 nothing_reads : (t : Program) → Reads [] t → ⊥
-nothing_reads t r = let e = r.tokens in let z : ◌≡◌ {A = ℕ} 0 1 = cc in omega arith
+nothing_reads t r = let e = r.tokens in cc
 
 pub empty_text : Unread [] (record { line = 1; column = 1 })
 empty_text =
@@ -57,8 +57,7 @@ stuck t b =
     let r = program_reads t b.reads.else_nearest in
     let x = r.reads (deeper 40 r.need) [] (at_least 40 r.need) tt in
     let e : failed ≡ took t [] = sym (fails r.need b.more) ∙ ap (λ ts. p_program (deeper 40 r.need) (ts ++ [])) b.reads.tokens ∙ x in
-    let z : ◌≡◌ {A = ℕ} 0 1 = cc in
-    omega arith
+    cc
 
 follows : Begins (tokens_of text) 18 (tree_of other)
 unfolding tokens_of tree_of

@@ -46,7 +46,7 @@ all_within (n ∷ ns) = leb n 64 && all_within ns
 
 split : (a b : Bool) → (a && b) ≡ true → (a ≡ true) × (b ≡ true)
 split true b h = (refl, h)
-split false b h = absurd (let z : ◌≡◌ {A = ℕ} 0 1 = cc in omega arith)
+split false b h = absurd cc
 
 within : (ns : List ℕ) → all_within ns ≡ true → (k : ℕ) → get_or ns k 0 ≤ 64
 within [] h k = omega arith

@@ -1,8 +1,12 @@
-use Rattle.scanner.proofs.Finding.{two_found, one_found}
+use Rattle.std.proofs.Common.{rules, tests, ◌≡◌, Some}
+use Rattle.std.specs.Option.{MatchOption}
+use Rattle.syntax.specs.Lexemes.{operator}
+use Rattle.scanner.specs.Found.{Tried}
+use Rattle.scanner.proofs.Finding.{operator_found}
 use Rattle.scanner.proofs.lexeme.longest_operator.Goals as goal
 
-pub returns-in-Some : goal.returns-in-Some
-returns-in-Some c = two_found c.args.text.now c.in-Some.lexeme c.requires c.in-Some.ensures
-
-pub returns-in-None : goal.returns-in-None
-returns-in-None c = one_found c.args.text.now c.operator_of-in-None.result c.requires c.in-None.ensures c.operator_of-in-None.ensures
+pub returns : goal.returns
+returns c =
+    let text = c.args.text.now in
+    let then_one : MatchOption c.operator_of.result (Tried operator 1 text c.or_else.result) (λ l. c.or_else.result ≡ Some l) = search (rules, tests) in
+    operator_found text c.operator_of.result c.or_else.result c.requires c.operator_of.ensures then_one

@@ -1,10 +1,11 @@
-use Rattle.std.proofs.Common.{◌≡◌, ◌+◌, ◌≤◌, drop}
+use Rattle.std.proofs.Common.{◌≡◌, ◌-◌, length, drop}
 use Rattle.syntax.specs.Tokens.{behind}
+use Rattle.scanner.specs.Steps.{Room}
 use Rattle.scanner.proofs.scan.position_behind.Given as goal
 
 -- the bytes to come lead from the place reached to the end
 abbrev pub invariant-loop-byte : goal.invariant-loop-byte
-invariant-loop-byte l =
-    (behind (record { line = l.line; column = l.column }) (drop l.byte-index l.bytes) ≡ behind (record { line = l.initial.line; column = l.initial.column }) l.bytes)
-    × (l.line ≤ l.initial.line + l.byte-index)
-    × (l.column ≤ l.initial.column + l.byte-index)
+invariant-loop-byte l = record {
+  leads : behind l.at (drop l.byte-index l.bytes) ≡ behind l.fn.position l.bytes;
+  room : Room l.at (length l.bytes - l.byte-index);
+}

@@ -1,15 +1,14 @@
-use Rattle.std.proofs.Common.{sym, ◌∙◌}
-use Rattle.std.proofs.lemmas.List.{at_drop_all}
-use Rattle.syntax.specs.Lexemes.{seek}
-use Rattle.scanner.specs.Tables.{table}
-use Rattle.scanner.proofs.Seeking.{seek_here, seek_on}
+use Rattle.std.proofs.Common.{rules, tests, ◌≡◌, ◌∙◌}
+use Rattle.std.specs.Option.{option_map}
+use Rattle.std.specs.Str.{bytes_eq}
+use Rattle.std.proofs.lemmas.Iterator.{YieldsList-from_slice}
+use Rattle.std.proofs.lemmas.Iterator.Search.{find_from_yields_List}
+use Rattle.scanner.proofs.Seeking.{seek_found}
 use Rattle.scanner.proofs.symbols.sought.Goals as goal
 
-pub returns-then-same : goal.returns-then-same
-returns-then-same c = sym (seek_here c.args.spellings.now c.loop-spelling.spelling-index _ c.args.word.now c.loop-spelling-test.true (sym c.if-same.ensures)) ∙ c.loop-spelling.invariant
-
-pub loop-spelling-preserved : goal.loop-spelling-preserved
-loop-spelling-preserved c = sym (seek_on c.args.spellings.now c.loop-spelling.spelling-index _ c.args.word.now c.loop-spelling-test.true (sym c.if-same.ensures)) ∙ c.loop-spelling.invariant
-
 pub returns : goal.returns
-returns c = sym (at_drop_all (λ ss. seek (table ss) c.args.word.now) c.args.spellings.now c.loop-spelling.spelling-index c.loop-spelling-test.false) ∙ c.loop-spelling.invariant
+returns c =
+    let word = c.args.word.now in
+    let found = find_from_yields_List (λ s. bytes_eq s.0.now word) _ _ c.find.result c.find.ensures.ran (YieldsList-from_slice c.args.spellings.now cc) (λ x b q k. search (rules, tests)) in
+    let symbol : c.map.result ≡ option_map (λ x. x.now.1) c.find.result = search (rules, tests) in
+    symbol ∙ seek_found c.args.spellings.now word c.find.result found
