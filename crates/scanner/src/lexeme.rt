@@ -111,10 +111,10 @@ fn plain_value(byte: u8) -> Option<u8>
 fn escape_value(letter: u8) -> Option<u8>
     ensures { result ≡ escape letter }
 {
-    match letter {
-        b'n' => Some(b'\n'),
-        b'r' => Some(b'\r'),
-        b't' => Some(b'\t'),
+    match letter as char {
+        'n' => Some(b'\n'),
+        'r' => Some(b'\r'),
+        't' => Some(b'\t'),
         _ => None,
     }
 }
