@@ -1,11 +1,13 @@
-ghost use Rattle.commands.specs.Arguments.{accepted, argument_in, asked_of, command_named, finished, option_named, reading_of, set, takes, texts_of, understood};
+ghost use Rattle.commands.specs.Arguments.{accepted, argument_in, asked_of, command_named, finished, reading_of, set, takes, texts_of, understood};
 ghost use Rattle.commands.specs.Understood.{UnderstoodAs, Unclear};
+ghost use Rattle.std.specs.Result.{result_ok};
 ghost use Rattle.std.specs.Prelude.{◌≡◌};
 
 use crate::failure::Failure;
 use crate::numbers::{number_in, word_in};
 use crate::request::{Options, Request};
 use std::alloc::Global;
+use std::str::FromStr;
 
 // Command is what the first argument names.
 #[derive(Clone, Copy)]
@@ -45,38 +47,42 @@ struct Reading<'a> {
     awaited: Option<Setting>,
 }
 
-// command_named is the command with this name.
-fn command_named(name: &str) -> Option<Command>
-    ensures { result ≡ command_named name.now }
-{
-    match name {
-        "check" => Some(Command::Check),
-        "list" => Some(Command::List),
-        "run" => Some(Command::Run),
-        _ => None,
+// Unknown is what is found wrong with a text that names nothing.
+#[derive(Clone, Copy)]
+struct Unknown;
+
+impl FromStr for Command {
+    type Err = Unknown;
+
+    ghost from_str_gives = { λ name command. result_ok command ≡ command_named name };
+
+    fn from_str(name: &str) -> Result<Command, Unknown> {
+        match name {
+            "check" => Ok(Command::Check),
+            "list" => Ok(Command::List),
+            "run" => Ok(Command::Run),
+            _ => Err(Unknown),
+        }
     }
 }
 
-// option_named is the option with this name.
-fn option_named(name: &str) -> Option<Argument>
-    ensures { result ≡ option_named name.now }
-{
-    match name {
-        "--json" => Some(Argument::Json),
-        "--budget" => Some(Argument::Setting(Setting::Budget)),
-        "--heap" => Some(Argument::Setting(Setting::Heap)),
-        "--call" => Some(Argument::Setting(Setting::Call)),
-        "--operand" => Some(Argument::Setting(Setting::Operand)),
-        "--room" => Some(Argument::Setting(Setting::Room)),
-        _ => None,
-    }
-}
+// An option is read by its name, and a word as its number.
+impl FromStr for Argument {
+    type Err = Unknown;
 
-// argument_in is what an argument says: an option by its name, or a word.
-fn argument_in(text: &str) -> Option<Argument>
-    ensures { result ≡ argument_in text.now }
-{
-    option_named(text).or_else(|| word_in(text).map(Argument::Word))
+    ghost from_str_gives = { λ text argument. result_ok argument ≡ argument_in text };
+
+    fn from_str(text: &str) -> Result<Argument, Unknown> {
+        match text {
+            "--json" => Ok(Argument::Json),
+            "--budget" => Ok(Argument::Setting(Setting::Budget)),
+            "--heap" => Ok(Argument::Setting(Setting::Heap)),
+            "--call" => Ok(Argument::Setting(Setting::Call)),
+            "--operand" => Ok(Argument::Setting(Setting::Operand)),
+            "--room" => Ok(Argument::Setting(Setting::Room)),
+            _ => word_in(text).map(Argument::Word).ok_or(Unknown),
+        }
+    }
 }
 
 impl Command {
@@ -126,7 +132,9 @@ impl Reading<'_> {
             self.awaited = None;
             return Ok(());
         }
-        let argument = argument_in(text)
+        let argument = text
+            .parse::<Argument>()
+            .ok()
             .filter(|argument| self.command.takes(*argument))
             .ok_or_else(|| unclear(self.heap, text))?;
         match argument {
@@ -174,7 +182,10 @@ pub fn read_arguments(heap: Global, arguments: &[&str]) -> Result<Request, Failu
     let [name, rest @ ..] = arguments else {
         return Ok(Request::Sample);
     };
-    let command = command_named(name).ok_or_else(|| unclear(heap, name))?;
+    let command = name
+        .parse::<Command>()
+        .ok()
+        .ok_or_else(|| unclear(heap, name))?;
     let [path, texts @ ..] = rest else {
         return Err(Failure::Missing);
     };
