@@ -5,6 +5,7 @@ use std::alloc::Global;
 use std::fmt;
 
 // Ending is what stands at the end of the answer of an execution.
+// It is no closure: that would go through four functions, each with a clause about it.
 #[derive(Clone, Copy)]
 pub enum Ending {
     Globals,
@@ -75,7 +76,7 @@ impl fmt::Display for Hex<'_> {
     }
 }
 
-// Listed shows words with commas between them, and no word by -.
+// Listed shows words with commas between them, and no word by -, where Listed of commands shows nothing.
 #[derive(Drop)]
 struct Listed<'a>(&'a [i32]);
 

@@ -55,6 +55,7 @@ pub fn summarize(progress: Progress<'_>) -> Summary
 
 // jelpuma_run_object inspects an object file, starts it in four stores and runs it once over words and out.
 // It answers 0, and in the report how the run stopped, its verdict, steps, words taken and bytes written; or the number of a refusal, and its offset first in the report; or 255 for a report of fewer than five numbers.
+// Answers and refusals are numbers, and the stores four slices, since the C interface has no enums and no structs of ours.
 pub fn jelpuma_run_object(
     object: &[u8],
     words: &[i32],

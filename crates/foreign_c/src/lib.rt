@@ -6,7 +6,7 @@
 ghost use Rattle.foreign.specs.Reports.{Answered};
 ghost use Rattle.machine.specs.Machines.{stores};
 
-// jelpuma_run_object is foreign::jelpuma_run_object, by its C name.
+// jelpuma_run_object is foreign::jelpuma_run_object, by its C name. Four slices and a number: the C interface has no structs of ours and no enums.
 #[unsafe(no_mangle)]
 pub extern "C" fn jelpuma_run_object(
     object: &[u8],

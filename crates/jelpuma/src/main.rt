@@ -22,11 +22,11 @@ use std::{env, io};
 
 // arguments gives the arguments behind the program's own name.
 fn arguments(rt: &HostRuntime) -> Result<Vec<String>, Failure> {
-    match env::args(rt) {
-        Ok(all) => Ok(all.skip(1).collect(rt.alloc())?),
-        Err(error) if error.kind() == io::ErrorKind::OutOfMemory => Err(Failure::NoMemory),
-        Err(_) => Err(Failure::NotText),
-    }
+    let all = env::args(rt).map_err(|error| match error.kind() {
+        io::ErrorKind::OutOfMemory => Failure::NoMemory,
+        _ => Failure::NotText,
+    })?;
+    Ok(all.skip(1).collect(rt.alloc())?)
 }
 
 // requested gives what the arguments ask for.

@@ -19,6 +19,7 @@ pub struct Machine<'a> {
 }
 
 // Progress is the answer of a run.
+// A refusal is a case and no Err: like a pause it hands the machine on, and a host that goes on takes it from either in one match.
 #[derive(Drop)]
 pub enum Progress<'a> {
     // Ended is the end of the program: the verdict, and how many steps this run counted.

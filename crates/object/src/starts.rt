@@ -69,6 +69,7 @@ impl<'a> Starts<'a> {
         requires { at < 8192 }
         ensures { Decides result (Lands self.now (pos at +ℤ by)) }
     {
+        // By let: a closure for is_some_and would borrow self, and then gets no proof.
         let Some(target) = at.checked_add_signed(by as isize) else {
             return false;
         };
@@ -84,6 +85,7 @@ impl<'a> Starts<'a> {
             return at == main;
         }
         let found = decode(&self.code[at..]);
+        // By let, as in lands.
         let Some(by) = found.and_then(|found| distance(found.instruction)) else {
             return false;
         };

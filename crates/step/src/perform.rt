@@ -7,6 +7,8 @@ use outcomes::Verdict;
 
 impl Interpreter<'_> {
     // perform does what an instruction does; next is the offset behind it.
+    // A match: the instruction set is closed, and each method has operands of its own.
+    // That pc is in the code is no fact of the type: it holds from the fetch of an instruction to its jump.
     pub(crate) fn perform(&mut self, instruction: Instruction, next: u16) -> Result<Effect, Verdict>
         requires { InCode self.old.pc }
         ensures { Performed instruction next result self.old self.new }

@@ -57,6 +57,7 @@ impl Interpreter<'_> {
     }
 
     // put_static performs a store to a global.
+    // It is not one with store: a method that writes either store would be lent a field of the struct that it is called on.
     pub(crate) fn put_static(&mut self, n: u16, next: u16) -> Result<Effect, Verdict>
         ensures { Performed (Instruction.PutStatic n) next result self.old self.new }
     {
