@@ -51,7 +51,7 @@ pub struct Decoded {
 pub fn decode(bytes: &[u8]) -> Option<Decoded>
     ensures { result ≡ spec.decoded bytes.now }
 {
-    // An arm for each operator and relation: where a list gave those of a run of opcodes, a step took a tenth longer.
+    // An arm for each operator and relation: where a list gave those of a run of opcodes, a step took up to a third longer.
     match bytes {
         [1, n, ..] => sized(Instruction::Load(*n), 2),
         [op @ 2..=5, ..] => sized(Instruction::Load(*op - 2), 1),

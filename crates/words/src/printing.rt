@@ -17,7 +17,7 @@ pub struct Text {
 }
 
 // write_digits writes n in decimal to the end of out, and gives where its digits begin.
-// With itoa a print took a third longer by its write_digits, and twice as long by its Buffer and a copy.
+// With itoa a print took 1.4 times as long by its write_digits, and 1.7 times as long by its Buffer and a copy.
 pub(crate) fn write_digits(n: u32, out: &mut [u8; 255]) -> usize
     ensures text { out.new ≡ take result out.old ++ decimal n }
     ensures place { result + length (decimal n) ≡ 255 }
