@@ -14,7 +14,7 @@ pub struct Ring<T, const N: usize> {
 
 // Clauses see the items held, the oldest first.
 impl<T, const N: usize> Model for Ring<T, N> {
-    ghost use Rattle.std.specs.Prelude.{◌≡◌, ◌+◌, ◌*◌, ◌^◌, ◌<◌, ◌≤◌, List, length};
+    ghost use Rattle.std.specs.Prelude.{◌≡◌, ◌+◌, ◌^◌, ◌<◌, ◌≤◌, List, length};
     ghost use Rattle.console.specs.Rounds.{along};
 
     ghost Value = { List T };
