@@ -9,7 +9,7 @@ use Rattle.outcomes.specs.declared.Refusal.{Refusal}
 use Rattle.outcomes.specs.declared.Refusal.TheVariants.{UnfitName, ContextRule, TooManyNames}
 use Rattle.words.specs.declared.printing.Kind.{Kind}
 use Rattle.program.specs.declared.Shape.{Shape}
-use Rattle.program.specs.declared.Shape.TheVariants.{Scalar, Array}
+use Rattle.program.specs.Core as core
 use Rattle.syntax.specs.Trees.{Name, Expr, positive, negative, Terms, no_terms, and_term, Term, product, Factors, no_factors, and_factor, Factor, value, call, literal, new, parenthesis, Designator, whole, element, Arguments, no_arguments, arguments, More, no_more, and_argument, Comparison, Conjunction, single, both, Condition, only, either, Declared, scalar, array, Declareds, last, and, Parameter, Parameters, no_parameters, parameters}
 use Rattle.context.specs.Scopes.{Entry, Scope, predeclared}
 
@@ -64,8 +64,8 @@ name_of (scalar x) = x
 name_of (array x p q) = x
 
 abbrev pub shape_of : Kind → Declared → Shape
-shape_of k (scalar x) = Scalar k
-shape_of k (array x p q) = Array k
+shape_of k (scalar x) = core.scalar k
+shape_of k (array x p q) = core.array_of k
 
 abbrev pub each : Declareds → List Declared
 each (last d) = d ∷ []

@@ -5,7 +5,6 @@ use Rattle.outcomes.specs.declared.Fault.{Fault}
 use Rattle.outcomes.specs.declared.Position.{Position}
 use Rattle.words.specs.declared.printing.Kind.{Kind}
 use Rattle.program.specs.declared.Shape.{Shape}
-use Rattle.program.specs.declared.Shape.TheVariants.{Scalar}
 use Rattle.program.specs.declared.Variable.TheVariants.{Local, Global}
 use Rattle.program.specs.Core as core
 use Rattle.syntax.specs.Trees.{Name, Literal, integer, letter, Designator, whole, element, Statement, assign, invoke, step, when, choose, while, break, return, give, read, print, print_wide, block, empty, Statements, none, and_then, Declared, Variables, Declaration, constant, variables, Parameter, ResultType, void, typed, Method, Program}
@@ -156,7 +155,7 @@ enter_globals k (d ∷ ds) G =
 
 -- a constant has the type of its literal
 abbrev pub constant_of : Name → Literal → Scope → Option Thing
-constant_of x l S = typing.◌>>=◌ (kind_of S x) λ k. typing.if (assignable (Scalar k) (literally l).type) (scope.constant (literally l).type (value_in l))
+constant_of x l S = typing.◌>>=◌ (kind_of S x) λ k. typing.if (assignable (core.scalar k) (literally l).type) (scope.constant (literally l).type (value_in l))
   where
     value_in : Literal → ℕ
     value_in (integer n p) = n

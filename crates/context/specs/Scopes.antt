@@ -5,8 +5,8 @@ use Rattle.std.specs.Str.{bytes_eq}
 use Rattle.words.specs.declared.printing.Kind.{Kind}
 use Rattle.words.specs.declared.printing.Kind.TheVariants.{Int, Char}
 use Rattle.program.specs.declared.Shape.{Shape}
-use Rattle.program.specs.declared.Shape.TheVariants.{Scalar}
 use Rattle.program.specs.declared.Variable.{Variable}
+use Rattle.program.specs.Core.{scalar}
 
 -- the type of an expression: that of a variable, or that of `null`; `null` has a type, which a None would not say
 pub data ValueType : Type 0 where
@@ -42,7 +42,7 @@ pub record Scope : Type 0 where
 
 abbrev pub predeclared : List Entry
 predeclared =
-    entry (codes "int") (type_name Int) ∷ entry (codes "char") (type_name Char) ∷ entry (codes "null") (constant null 0) ∷ entry (codes "eol") (constant (shaped (Scalar Char)) 10)
+    entry (codes "int") (type_name Int) ∷ entry (codes "char") (type_name Char) ∷ entry (codes "null") (constant null 0) ∷ entry (codes "eol") (constant (shaped (scalar Char)) 10)
     ∷ entry (codes "chr") (standard chr) ∷ entry (codes "ord") (standard ord) ∷ entry (codes "len") (standard len) ∷ []
 
 abbrev pub seek : List Entry → List ℕ → Option Thing

@@ -1,5 +1,5 @@
 -- The type of each expression, which forms are legal, and the core that a legal form stands for.
-use Rattle.std.specs.Prelude.{ℕ, Bool, true, false, cond, not, ◌&&◌, ◌||◌, List, [], ◌∷◌, Some, None, Option, nat_le}
+use Rattle.std.specs.Prelude.{ℕ, Bool, true, false, cond, ◌&&◌, ◌||◌, List, [], ◌∷◌, Some, None, Option, ◌==◌, nat_le}
 use Rattle.words.specs.declared.arithmetic.Operator.{Operator}
 use Rattle.words.specs.declared.arithmetic.Operator.TheVariants.{Add, Subtract, Multiply, Divide, Remainder}
 use Rattle.words.specs.declared.arithmetic.Relation.{Relation}
@@ -9,10 +9,9 @@ use Rattle.words.specs.declared.printing.Kind.TheVariants.{Int, Char}
 use Rattle.program.specs.declared.Direction.{Direction}
 use Rattle.program.specs.declared.Direction.TheVariants.{Up, Down}
 use Rattle.program.specs.declared.Shape.{Shape}
-use Rattle.program.specs.declared.Shape.TheVariants.{Scalar, Array}
 use Rattle.program.specs.declared.Variable.{Variable}
 use Rattle.program.specs.Core as core
-use Rattle.program.specs.Core.{Value, Values, Action, same_kind, is_array}
+use Rattle.program.specs.Core.{Value, Values, Action, same_kind, scalar, array_of, is_array}
 use Rattle.syntax.specs.Trees.{Name, Addop, plus, minus, Mulop, times, over, percent, Literal, integer, letter, Expr, positive, negative, Terms, no_terms, and_term, Term, product, Factors, no_factors, and_factor, Factor, value, call, literal, new, parenthesis, Designator, whole, element, Arguments, no_arguments, arguments, More, no_more, and_argument, Comparison, Conjunction, single, both, Condition, only, either}
 use Rattle.context.specs.Scopes.{ValueType, shaped, null, Standard, chr, ord, len, Thing, class, type_name, constant, variable, method, standard, Scope, lookup}
 
@@ -24,15 +23,12 @@ abbrev pub ◌>>=◌ : {A B : Type 0} → Option A → (A → Option B) → Opti
 abbrev pub if : {A : Type 0} → Bool → A → Option A
 if rule a = cond rule (Some a) None
 
--- types are the same if both are single values or both arrays, of one kind
+-- types are the same if their element kinds and dimensions are
 abbrev pub same_shape : Shape → Shape → Bool
-same_shape (Scalar j) (Scalar k) = same_kind j k
-same_shape (Scalar j) (Array k) = false
-same_shape (Array j) (Scalar k) = false
-same_shape (Array j) (Array k) = same_kind j k
+same_shape s t = same_kind s.kind t.kind && s.dimension == t.dimension
 
 abbrev pub is_kind : Kind → ValueType → Bool
-is_kind k (shaped s) = same_shape s (Scalar k)
+is_kind k (shaped s) = same_shape s (scalar k)
 is_kind k null = false
 
 -- a value of type t may be stored in a variable of shape s: the same type, or `null` in an array variable
@@ -56,7 +52,7 @@ is_equality GreaterOrEqual = false
 
 -- arrays and `null` are only compared for being equal or not
 abbrev pub comparable : Relation → ValueType → Bool
-comparable r (shaped s) = is_equality r || not (is_array s)
+comparable r (shaped s) = is_equality r || s.dimension == 0
 comparable r null = is_equality r
 
 pub record Typed : Type 0 where
@@ -86,16 +82,16 @@ abbrev pub joined : Operator → Option Typed → Option Typed → Option Typed
 joined o x y = do
   a ← x
   b ← y
-  if (is_int a && is_int b) (typed (core.binary o a.value b.value) (Scalar Int))
+  if (is_int a && is_int b) (typed (core.binary o a.value b.value) (scalar Int))
 
 abbrev pub negated : Option Typed → Option Typed
 negated x = do
   a ← x
-  if (is_int a) (typed (core.negate a.value) (Scalar Int))
+  if (is_int a) (typed (core.negate a.value) (scalar Int))
 
 abbrev pub literally : Literal → Typed
-literally (integer n p) = typed (core.constant n) (Scalar Int)
-literally (letter c p) = typed (core.constant c) (Scalar Char)
+literally (integer n p) = typed (core.constant n) (scalar Int)
+literally (letter c p) = typed (core.constant c) (scalar Char)
 
 -- the kind that a type name stands for
 abbrev pub kind_named : Thing → Option Kind
@@ -141,9 +137,9 @@ abbrev pub variable_place : Variable × Shape → Place
 variable_place x = place (core.variable x.0) (core.load x.0) x.1
 
 -- an element of an array variable, by an int
-abbrev pub element_place : Variable → Shape → Typed → Option Place
-element_place x (Scalar k) i = None
-element_place x (Array k) i = if (is_int i) (place (core.element k x i.value) (core.load_element k x i.value) (Scalar k))
+abbrev pub element_place : Variable × Shape → Typed → Option Place
+element_place x i =
+    if (is_array x.1 && is_int i) (place (core.element x.1.kind x.0 i.value) (core.load_element x.1.kind x.0 i.value) (scalar x.1.kind))
 
 abbrev pub value_of : Place → Typed
 value_of x = typed x.load x.shape
@@ -161,12 +157,12 @@ values_of (a ∷ xs) = core.and_value a.value (values_of xs)
 
 -- `chr` takes an int, `ord` a char, `len` an array
 abbrev pub standard_of : Standard → Typed → Option Typed
-standard_of chr a = if (is_int a) (typed (core.convert Char a.value) (Scalar Char))
-standard_of ord a = if (is_char a) (typed (core.convert Int a.value) (Scalar Int))
+standard_of chr a = if (is_int a) (typed (core.convert Char a.value) (scalar Char))
+standard_of ord a = if (is_char a) (typed (core.convert Int a.value) (scalar Int))
 standard_of len a = length_of a.type a.value
   where
     length_of : ValueType → Value → Option Typed
-    length_of (shaped s) v = if (is_array s) (typed (core.length_of v) (Scalar Int))
+    length_of (shaped s) v = if (is_array s) (typed (core.length_of v) (scalar Int))
     length_of null v = None
 
 abbrev pub one_argument : List Typed → Option Typed
@@ -182,7 +178,7 @@ result_named (constant t n) xs = None
 result_named (variable x s) xs = None
 result_named (method m r ps) xs = do
   k ← r
-  if (suit ps xs) (typed (core.result m (values_of xs)) (Scalar k))
+  if (suit ps xs) (typed (core.result m (values_of xs)) (scalar k))
 result_named (standard f) xs = do
   a ← one_argument xs
   standard_of f a
@@ -232,7 +228,7 @@ abbrev mutual
   type_f (new p x q e r) S = do
     k ← kind_of S x
     n ← type_e e S
-    if (is_int n) (typed (core.new_array k n.value) (Array k))
+    if (is_int n) (typed (core.new_array k n.value) (array_of k))
   type_f (parenthesis p e q) S = type_e e S
 
   pub type_d : Designator → Scope → Option Typed
@@ -243,7 +239,7 @@ abbrev mutual
     t ← lookup S x.text
     x₁ ← variable_named t
     i ← type_e e S
-    y ← element_place x₁.0 x₁.1 i
+    y ← element_place x₁ i
     Some (value_of y)
 
   pub type_as : Arguments → Scope → Option (List Typed)
@@ -270,7 +266,7 @@ place_of (element x p e q) S = do
   t ← lookup S x.text
   y ← variable_named t
   i ← type_e e S
-  element_place y.0 y.1 i
+  element_place y i
 
 abbrev pub compared : Comparison → Scope → Option core.Comparison
 compared c S = do
@@ -302,8 +298,7 @@ direction minus = Down
 
 -- the kind of an int or a char
 abbrev pub kind_in : ValueType → Option Kind
-kind_in (shaped (Scalar k)) = Some k
-kind_in (shaped (Array k)) = None
+kind_in (shaped s) = if (s.dimension == 0) s.kind
 kind_in null = None
 
 abbrev pub assigned : Designator → Expr → Scope → Option Action
@@ -351,4 +346,4 @@ abbrev pub giving : Option Kind → Expr → Scope → Option Action
 giving r e S = do
   k ← r
   a ← type_e e S
-  if (assignable (Scalar k) a.type) (core.give a.value)
+  if (assignable (scalar k) a.type) (core.give a.value)

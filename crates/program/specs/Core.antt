@@ -1,5 +1,5 @@
 -- The core program: names are numbers, types are decided, constants are their values. Nothing is computed ahead.
-use Rattle.std.specs.Prelude.{ℕ, suc, ◌+◌, Bool, true, false, List, length, Option}
+use Rattle.std.specs.Prelude.{ℕ, suc, ◌+◌, Bool, true, false, List, length, Option, nat_le}
 use Rattle.outcomes.specs.declared.Position.{Position}
 use Rattle.words.specs.declared.arithmetic.Operator.{Operator}
 use Rattle.words.specs.declared.arithmetic.Relation.{Relation}
@@ -7,7 +7,6 @@ use Rattle.words.specs.declared.printing.Kind.{Kind}
 use Rattle.words.specs.declared.printing.Kind.TheVariants.{Int, Char}
 use Rattle.program.specs.declared.Direction.{Direction}
 use Rattle.program.specs.declared.Shape.{Shape}
-use Rattle.program.specs.declared.Shape.TheVariants.{Scalar, Array}
 use Rattle.program.specs.declared.Variable.{Variable}
 
 mutual
@@ -102,6 +101,11 @@ same_kind Int Char = false
 same_kind Char Int = false
 same_kind Char Char = true
 
+abbrev pub scalar : Kind → Shape
+scalar k = record { kind = k; dimension = 0 }
+
+abbrev pub array_of : Kind → Shape
+array_of k = record { kind = k; dimension = 1 }
+
 abbrev pub is_array : Shape → Bool
-is_array (Scalar k) = false
-is_array (Array k) = true
+is_array s = nat_le 1 s.dimension

@@ -4,10 +4,9 @@ use Rattle.std.specs.List.{slice_get}
 use Rattle.words.specs.declared.printing.Kind.{Kind}
 use Rattle.words.specs.declared.printing.Kind.TheVariants.{Int}
 use Rattle.program.specs.declared.Shape.{Shape}
-use Rattle.program.specs.declared.Shape.TheVariants.{Scalar, Array}
 use Rattle.program.specs.declared.Variable.{Variable}
 use Rattle.program.specs.declared.Variable.TheVariants.{Local, Global}
-use Rattle.program.specs.Core.{Value, constant, load, load_element, negate, binary, new_array, length_of, convert, result, Values, no_values, and_value, Comparison, compare, Conjunction, single, both, Condition, only, either, Target, variable, element, Action, assign, step, read, print, invoke, discard, when, choose, while, break, return, give, block, nothing, Actions, no_actions, and_then, Method, Program, variable_count, is_array}
+use Rattle.program.specs.Core.{Value, constant, load, load_element, negate, binary, new_array, length_of, convert, result, Values, no_values, and_value, Comparison, compare, Conjunction, single, both, Condition, only, either, Target, variable, element, Action, assign, step, read, print, invoke, discard, when, choose, while, break, return, give, block, nothing, Actions, no_actions, and_then, Method, Program, variable_count, scalar, array_of}
 
 -- where a form stands: the methods and globals of its program, the parameters and locals of its method, the method's result, and whether it is in a loop
 pub record Where : Type 0 where
@@ -27,15 +26,15 @@ shape_of (Global n) c = slice_get c.globals n
 -- a value of this type; `null` is the constant 0, of every array type
 abbrev mutual
   pub HasV : Value → Where → Shape → Type 0
-  HasV (constant n) c s = (n ≤ 2147483647) × ((is_array s ≡ false) ⊎ (n ≡ 0))
+  HasV (constant n) c s = (n ≤ 2147483647) × ((s.dimension ≡ 0) ⊎ (n ≡ 0))
   HasV (load x) c s = shape_of x c ≡ Some s
-  HasV (load_element k x v) c s = (shape_of x c ≡ Some (Array k)) × HasV v c (Scalar Int) × (s ≡ Scalar k)
-  HasV (negate v) c s = HasV v c (Scalar Int) × (s ≡ Scalar Int)
-  HasV (binary o v u) c s = HasV v c (Scalar Int) × HasV u c (Scalar Int) × (s ≡ Scalar Int)
-  HasV (new_array k v) c s = HasV v c (Scalar Int) × (s ≡ Array k)
-  HasV (length_of v) c s = (k : Kind) × HasV v c (Array k) × (s ≡ Scalar Int)
-  HasV (convert k v) c s = (j : Kind) × HasV v c (Scalar j) × (s ≡ Scalar k)
-  HasV (result m vs) c s = (x : Method) × (k : Kind) × (slice_get c.methods m ≡ Some x) × (x.result ≡ Some k) × HasVs vs c x.parameters × (s ≡ Scalar k)
+  HasV (load_element k x v) c s = (shape_of x c ≡ Some (array_of k)) × HasV v c (scalar Int) × (s ≡ scalar k)
+  HasV (negate v) c s = HasV v c (scalar Int) × (s ≡ scalar Int)
+  HasV (binary o v u) c s = HasV v c (scalar Int) × HasV u c (scalar Int) × (s ≡ scalar Int)
+  HasV (new_array k v) c s = HasV v c (scalar Int) × (s ≡ array_of k)
+  HasV (length_of v) c s = (k : Kind) × HasV v c (array_of k) × (s ≡ scalar Int)
+  HasV (convert k v) c s = (j : Kind) × HasV v c (scalar j) × (s ≡ scalar k)
+  HasV (result m vs) c s = (x : Method) × (k : Kind) × (slice_get c.methods m ≡ Some x) × (x.result ≡ Some k) × HasVs vs c x.parameters × (s ≡ scalar k)
 
   -- as many values as types, and each of its type
   pub HasVs : Values → Where → List Shape → Type 0
@@ -56,14 +55,14 @@ FitsCondition (either k x) c = FitsConjunction k c × FitsCondition x c
 
 abbrev pub HasTarget : Target → Where → Shape → Type 0
 HasTarget (variable x) c s = shape_of x c ≡ Some s
-HasTarget (element k x v) c s = (shape_of x c ≡ Some (Array k)) × HasV v c (Scalar Int) × (s ≡ Scalar k)
+HasTarget (element k x v) c s = (shape_of x c ≡ Some (array_of k)) × HasV v c (scalar Int) × (s ≡ scalar k)
 
 abbrev mutual
   pub FitsAction : Action → Where → Type 0
   FitsAction (assign t v) c = (s : Shape) × HasTarget t c s × HasV v c s
-  FitsAction (step d t) c = HasTarget t c (Scalar Int)
-  FitsAction (read k t) c = HasTarget t c (Scalar k)
-  FitsAction (print k v n) c = HasV v c (Scalar k) × (n ≤ 255)
+  FitsAction (step d t) c = HasTarget t c (scalar Int)
+  FitsAction (read k t) c = HasTarget t c (scalar k)
+  FitsAction (print k v n) c = HasV v c (scalar k) × (n ≤ 255)
   FitsAction (invoke m vs) c = (x : Method) × (slice_get c.methods m ≡ Some x) × (x.result ≡ None) × HasVs vs c x.parameters
   FitsAction (discard m vs) c = (x : Method) × (k : Kind) × (slice_get c.methods m ≡ Some x) × (x.result ≡ Some k) × HasVs vs c x.parameters
   FitsAction (when b a) c = FitsCondition b c × FitsAction a c
@@ -71,7 +70,7 @@ abbrev mutual
   FitsAction (while b a) c = FitsCondition b c × FitsAction a (in_loop c)
   FitsAction break c = c.looping ≡ true
   FitsAction return c = c.gives ≡ None
-  FitsAction (give v) c = (k : Kind) × (c.gives ≡ Some k) × HasV v c (Scalar k)
+  FitsAction (give v) c = (k : Kind) × (c.gives ≡ Some k) × HasV v c (scalar k)
   FitsAction (block bs) c = FitsActions bs c
   FitsAction nothing c = Unit {0}
 

@@ -11,11 +11,12 @@ pub mod operation;
 
 use words::printing::Kind;
 
-// Shape is the type of a variable: a single value of a kind, or an array of them.
+// Shape is the type of a variable: the kind of its elements, and how many indices lead to one: 0 or 1.
+// The dimension is a number: of an enum of the two, the theorems of all programs would speak of fewer programs.
 #[derive(Clone, Copy, PartialEq, Eq, Debug)]
-pub enum Shape {
-    Scalar(Kind),
-    Array(Kind),
+pub struct Shape {
+    pub kind: Kind,
+    pub dimension: u8,
 }
 
 // Variable is a local of the present method or a global, by its number.
