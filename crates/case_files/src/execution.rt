@@ -135,9 +135,7 @@ impl Execution<'_> {
         let mut console = RingConsole::new();
         let driven = self.drive(&mut console, |ring| host.attend(ring))?;
         let fed = words.len().saturating_sub(host.words.len());
-        let mut rest = [0; 512];
-        let count = console.drain(&mut rest);
-        host.bytes.extend_from_slice(&rest[..count])?;
+        host.drain(&mut console, &mut [0; 512])?;
         Ok(Outcome {
             driven,
             taken: fed.saturating_sub(console.words_waiting()),

@@ -18,7 +18,7 @@ impl Host<'_> {
     // attend feeds some words and drains some bytes, and tells whether there were any.
     pub(crate) fn attend(&mut self, console: &mut RingConsole) -> Result<bool, AllocError> {
         let fed = self.feed(console);
-        let drained = self.drain(console)?;
+        let drained = self.drain(console, &mut [0; DRAINED])?;
         Ok(fed || drained)
     }
 
@@ -34,10 +34,13 @@ impl Host<'_> {
         fed > 0
     }
 
-    // drain drains the oldest bytes of a console, and tells whether there were any.
-    fn drain(&mut self, console: &mut RingConsole) -> Result<bool, AllocError> {
-        let mut part = [0; DRAINED];
-        let count = console.drain(&mut part);
+    // drain drains the oldest bytes of a console, as many as the part holds, and tells whether there were any.
+    pub(crate) fn drain(
+        &mut self,
+        console: &mut RingConsole,
+        part: &mut [u8],
+    ) -> Result<bool, AllocError> {
+        let count = console.drain(part);
         self.bytes.extend_from_slice(&part[..count])?;
         Ok(count > 0)
     }

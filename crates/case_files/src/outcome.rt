@@ -76,7 +76,7 @@ impl fmt::Display for Hex<'_> {
     }
 }
 
-// Listed shows words with commas between them, and no word by -, where Listed of commands shows nothing.
+// Listed shows words with commas between them, and no word by -, where Listed of commands shows nothing: one for both would be told the word for none.
 #[derive(Drop)]
 struct Listed<'a>(&'a [i32]);
 

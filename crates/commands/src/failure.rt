@@ -15,6 +15,7 @@ pub enum Failure {
     NoMemory,
 }
 
+// From is written by hand: clauses rest on from_gives, which a derived one has not.
 impl From<AllocError> for Failure {
     ghost from_gives = { λ _ r. r ≡ NoMemory };
 

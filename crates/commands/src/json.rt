@@ -9,7 +9,7 @@ use outcomes::{Numbered, Pause};
 use std::alloc::{AllocError, Global};
 use std::fmt;
 
-// stop_name is the value of the key `stop`.
+// stop_name is the value of the key `stop`: letters of its own, while Display has the names for a reader.
 fn stop_name(stop: Stop) -> &'static str
     ensures { result.now ≡ stop_name stop }
 {

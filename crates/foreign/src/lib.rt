@@ -7,7 +7,7 @@ ghost use Rattle.foreign.specs.Reports.{Answered, steps_of, stop_of, verdict_of}
 ghost use Rattle.machine.specs.Machines.{stores};
 ghost use Rattle.std.specs.Prelude.{◌≡◌};
 
-use console::{Console, SliceConsole};
+use console::SliceConsole;
 use machine::Stores;
 use machine::advance::advance;
 use machine::machine::Progress;
@@ -98,7 +98,7 @@ pub fn jelpuma_run_object(
     report[0] = answer.stop;
     report[1] = answer.verdict;
     report[2] = answer.steps;
-    report[3] = words.len().saturating_sub(console.words_waiting()) as u64;
+    report[3] = console.taken() as u64;
     report[4] = console.written_bytes().len() as u64;
     0
 }

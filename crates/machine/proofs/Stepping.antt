@@ -1,4 +1,4 @@
--- One turn more: the steps of a run, what it exchanges with its console, and that it stays sound.
+-- One turn more: the steps of a run, and what it exchanges with its console.
 use Rattle.std.proofs.Common.{◌≡◌, ℕ, ◌+◌, ◌-◌, ◌<◌, ◌≤◌, Bool, true, false, cond, leb, List, [], ◌∷◌, ◌++◌, length, ℤ, Ok, Err, Result, sym, refl, ap, ◌∙◌, subst, append_assoc, append-nil, add-one, arith, length-append}
 use Rattle.std.proofs.lemmas.Bool.{leb-true}
 use Rattle.outcomes.specs.declared.Pause.{Pause}

@@ -9,6 +9,10 @@ use step::registers::Effect;
 use words::printing::Kind;
 use words::text::printed;
 
+// The console stands beside the machine, and not in a struct with it: a question to it would go through a `&mut` field,
+// of which the kit then knows nothing. What it shows is written out in clauses by the three members of its trait: of one
+// more member that bundles them a generic clause would not know that it does.
+
 // read takes a word for a read, where one waits.
 fn read<C: Console>(
     machine: &mut Interpreter<'_>,

@@ -3,7 +3,7 @@ ghost use Rattle.object.specs.Inspection.{HeaderRead};
 use crate::checked::ObjectFault;
 use outcomes::Refusal;
 
-// Header is what a header says, and the code behind it.
+// Header is what a header says, and the code behind it. It is no Checked yet: that is well formed by its type.
 #[derive(Drop)]
 pub(crate) struct Header<'a> {
     pub(crate) code: &'a [u8],

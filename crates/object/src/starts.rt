@@ -44,7 +44,8 @@ impl<'a> Starts<'a> {
         ensures { StartsFound code.now result }
     {
         let mut marks = [false; 8192];
-        // The next offset is behind an instruction of any size: no range and no chunks give it.
+        // No range or chunks give the next offset, and an iterator over instructions would end alike
+        // at the end of the code and at an unreadable one, which are told apart here.
         let mut at = 0;
         while at < code.len() {
             let found = decode(&code[at..]).ok_or(ObjectFault {
@@ -69,7 +70,7 @@ impl<'a> Starts<'a> {
         requires { at < 8192 }
         ensures { Decides result (Lands self.now (pos at +ℤ by)) }
     {
-        // By let: a closure for is_some_and would borrow self, and then gets no proof.
+        // By let: is_some_and takes an FnOnce, and of one that borrows a struct with a model the kit knows nothing.
         let Some(target) = at.checked_add_signed(by as isize) else {
             return false;
         };

@@ -1,8 +1,8 @@
 // Owns the closed lists of how a step, a run or a call can end: verdicts, pauses and refusals.
-// Promises the number of each case, and the stage of each refusal of a text.
+// Promises the number of each case and the text that it prints as, and the stage of each refusal of a text.
 // Does not say when a case is given: the layers do that.
 //
-// specs/Numbers.antt: the numbers and stages. docs/refusals.md and docs/machine.md: what each case means.
+// specs/Numbers.antt: the numbers and stages. specs/Names.antt: the texts. docs/refusals.md and docs/machine.md: what each case means.
 #![tactic(auto)]
 
 ghost use Rattle.std.specs.Prelude.{◌≡◌, ℕ, Some};
@@ -176,6 +176,7 @@ impl Refusal {
     }
 }
 
+// The names of cases are written by hand: of what a derived Debug prints no clause knows anything.
 impl fmt::Display for Verdict {
     ghost output = { λ v. Some (name_of_verdict v) };
 

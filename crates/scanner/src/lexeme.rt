@@ -16,6 +16,7 @@ pub(crate) struct Lexeme<'a> {
 }
 
 // longest_lexeme is the longest lexeme that a text begins with.
+// That there is a byte is what scan's loop tests: a type that says so would be made and taken apart for each lexeme.
 pub(crate) fn longest_lexeme(text: &[u8]) -> Option<Lexeme<'_>>
     requires { 0 < length text.now }
     ensures { FoundOrNone text.now result }
@@ -111,6 +112,7 @@ fn plain_value(byte: u8) -> Option<u8>
 fn escape_value(letter: u8) -> Option<u8>
     ensures { result ≡ escape letter }
 {
+    // The letter is read as a character, as the rule of the language says.
     match letter as char {
         'n' => Some(b'\n'),
         'r' => Some(b'\r'),

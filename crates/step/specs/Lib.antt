@@ -5,3 +5,5 @@ pub mod Calls
 pub mod Perform
 pub mod Loans
 pub mod Promises
+pub mod Sound
+pub mod Laws

@@ -66,7 +66,7 @@ impl Interpreter<'_> {
         if self.heap.len() - self.free < words {
             return Err(Verdict::HeapExhausted);
         }
-        write_block(self.heap, self.free, elements, &[], words - 1);
+        write_block(self.heap, self.free, elements, words - 1);
         self.operand[self.height - 1] = self.free as i32;
         self.free += words;
         self.pc = next as i32;

@@ -1,7 +1,7 @@
 ghost use Rattle.std.specs.Prelude.{◌+◌, ◌≤◌, length};
 ghost use Rattle.step.specs.Promises.{ArgumentsPassed, InCode, Performed};
 
-use crate::blocks::write_block;
+use crate::blocks::{place, write_block};
 use crate::interpreter::Interpreter;
 use crate::registers::Effect;
 use instructions::Instruction;
@@ -58,7 +58,7 @@ impl Interpreter<'_> {
         if self.operand.len() - left < 32 {
             return Err(Verdict::OperandStackExhausted);
         }
-        write_block(self.call, self.top, self.frame, &[], locals as usize);
+        write_block(self.call, self.top, self.frame, locals as usize);
         self.pass_arguments(first, left, count);
         self.frame = first as i32;
         self.top = top;
@@ -83,11 +83,9 @@ impl Interpreter<'_> {
     pub(crate) fn exit(&mut self, next: u16) -> Result<Effect, Verdict>
         ensures { Performed Instruction.Exit next result self.old self.new }
     {
-        if self.frame < 1 || self.frame as usize > self.call.len() {
-            return Err(Verdict::IllegalStep);
-        }
-        self.top = self.frame as usize - 1;
-        self.frame = self.call[self.top];
+        let at = place(self.frame as i64 - 1, self.call.len())?;
+        self.top = at;
+        self.frame = self.call[at];
         self.pc = next as i32;
         Ok(Effect::Moved)
     }

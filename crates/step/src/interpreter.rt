@@ -10,18 +10,14 @@ pub struct Stores<'s> {
 }
 
 // Interpreter is a machine while it runs: its code, its registers, and the stores that it is lent.
+// It has the fields of Registers and of Stores side by side: nested, a method would say self.registers.height for self.height.
 #[derive(Drop)]
 pub struct Interpreter<'s> {
     pub code: &'s [u8],
-    // pc is the code offset of the next instruction.
     pub pc: i32,
-    // frame is the call-store word of local 0.
     pub frame: i32,
-    // top is the number of call-store words in use.
     pub top: usize,
-    // height is the number of operand-store words in use.
     pub height: usize,
-    // free is the next free heap word.
     pub free: usize,
     pub data: &'s mut [i32],
     pub heap: &'s mut [i32],

@@ -49,10 +49,7 @@ impl Interpreter<'_> {
     pub(crate) fn get_static(&mut self, n: u16, next: u16) -> Result<Effect, Verdict>
         ensures { Performed (Instruction.GetStatic n) next result self.old self.new }
     {
-        if n as usize >= self.data.len() {
-            return Err(Verdict::IllegalStep);
-        }
-        let word = self.data[n as usize];
+        let word = self.data[place(n as i64, self.data.len())?];
         self.constant(word, next)
     }
 
@@ -61,12 +58,10 @@ impl Interpreter<'_> {
     pub(crate) fn put_static(&mut self, n: u16, next: u16) -> Result<Effect, Verdict>
         ensures { Performed (Instruction.PutStatic n) next result self.old self.new }
     {
-        if n as usize >= self.data.len() {
-            return Err(Verdict::IllegalStep);
-        }
+        let at = place(n as i64, self.data.len())?;
         let [word] = self.uppermost::<1>()?;
         self.height -= 1;
-        self.data[n as usize] = word;
+        self.data[at] = word;
         self.pc = next as i32;
         Ok(Effect::Moved)
     }
