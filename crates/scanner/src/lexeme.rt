@@ -1,7 +1,7 @@
-ghost use Rattle.std.specs.Prelude.{◌≡◌, ◌<◌, length, take, Some, slice_index};
+ghost use Rattle.std.specs.Prelude.{◌≡◌, ◌<◌, length, Some, slice_index};
 ghost use Rattle.scanner.specs.Found.{FoundOrNone, OnlyOperators, Tried};
 ghost use Rattle.syntax.specs.Borrowed.{kind_meant};
-ghost use Rattle.syntax.specs.Lexemes.{is, comment, constant, escape, namelike, plain, quotation, token_of};
+ghost use Rattle.syntax.specs.Lexemes.{escape, namelike, plain, token_of};
 ghost use Rattle.syntax.specs.Lexemes.{operator as operators};
 
 use crate::bytes::{is_blank, is_name_part, run};

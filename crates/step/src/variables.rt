@@ -1,4 +1,4 @@
-ghost use Rattle.std.specs.Prelude.{◌≡◌, ◌+◌, length, pos, ◌+ℤ◌, IfOk};
+ghost use Rattle.std.specs.Prelude.{length, pos, ◌+ℤ◌};
 ghost use Rattle.step.specs.Promises.{Performed, PlaceFound};
 
 use crate::blocks::place;
