@@ -1,5 +1,5 @@
 use Rattle.std.proofs.Common.{rules}
-use mathlib.Core.Logic.{inl, inr}
+use mathlib.Core.Logic.{inr}
 use mathlib.Core.Path.{refl, sym, ap, subst, ◌∙◌}
 use native.Mathlib.Omega.{arith}
 use lib.ListN.{set}
@@ -21,9 +21,3 @@ returns-in-Err-start c =
     let s = c.in-Err-start.ensures.started in
     let i = c.in-Ok.ensures in
     inr (subst (Declines c.args.object.now _ (set c.args.report.now 0 0)) (sym (c.number-in-Err-start.ensures ∙ ap number_of_refusal s.0)) (store c.in-Ok.checked i.0 i.1 s.1), search (rules, s.2))
-
-pub returns : goal.returns
-returns c =
-    let i = c.in-Ok.ensures in
-    let s = c.in-Ok-start.ensures.started in
-    inl (refl, record { object = c.in-Ok.checked; file = i.0; formed = i.1; suffices = s.0 })
