@@ -1,6 +1,6 @@
 -- The longest lexeme at the front of the bytes, computed.
 use Rattle.std.proofs.Common.{◌≡◌, ℕ, suc, ◌≤◌, Bool, true, false, cond, eqb, List, [], ◌∷◌, length, take, Some, None, Option, sym, refl, ◌∙◌, subst, arith}
-use Rattle.std.proofs.lemmas.Bool.{eqb-true, both_ways, and_parts, cond-false}
+use Rattle.std.proofs.lemmas.Bool.{eqb-true, and_parts, cond-false}
 use Rattle.syntax.specs.Lexemes.{is_letter, is_digit, is_name_part, is_blank, Class, blank, comment, namelike, numeric, quotation, operator, is, Lexeme, Longest, NoLexeme}
 use Rattle.syntax.proofs.Classes.{by_first, empty_none}
 use Rattle.syntax.proofs.Longest.{in_line, lexeme, Run, run_more, run_none, run_empty, name_longest, number_longest, blank_longest, comment_longest, operator_longest, operator_none, constant_longest, constant_none}
@@ -74,7 +74,7 @@ quote_found : (b : ℕ) (bs : List ℕ) → eqb b 39 ≡ true → Found (b ∷ b
 unfolding quote_at
 quote_found b [] q = constant_none b [] q (λ l. absurd (omega arith)) (λ l. absurd (omega arith))
 quote_found b (c ∷ []) q = constant_none b (c ∷ []) q (λ l. absurd (omega arith)) (λ l. absurd (omega arith))
-quote_found b (c ∷ d ∷ []) q = constant_found _ false b (c ∷ d ∷ []) q (omega arith) refl (λ h. absurd (both_ways _ refl h)) (λ l. absurd (omega arith))
+quote_found b (c ∷ d ∷ []) q = constant_found _ false b (c ∷ d ∷ []) q (omega arith) refl (λ h. absurd cc) (λ l. absurd (omega arith))
 quote_found b (c ∷ d ∷ e ∷ bs) q = constant_found _ _ b (c ∷ d ∷ e ∷ bs) q (omega arith) refl (λ h. omega arith) (λ l. refl)
 
 slashes_found : (a b : ℕ) (bs : List ℕ) → is comment (a ∷ b ∷ []) ≡ true → Longest (a ∷ b ∷ bs) (lexeme comment (suc (suc (front in_line bs))))

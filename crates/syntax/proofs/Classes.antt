@@ -60,7 +60,7 @@ each test [] = true
 each test (x ∷ xs) = test x.0 && each test xs
 
 pub seek_each : (test : List ℕ → Bool) (xs : List Spelt) (w : List ℕ) → each test xs ≡ true → is_some (seek xs w) ≡ true → test w ≡ true
-seek_each test [] w h s = absurd (both_ways _ refl s)
+seek_each test [] w h s = absurd cc
 seek_each test (x ∷ xs) w h s = same (bytes_eq x.0 w) refl (seek_each test xs w (and_parts _ _ h).1) s
   where
     same : (t : Bool) → bytes_eq x.0 w ≡ t → (is_some (seek xs w) ≡ true → test w ≡ true) → is_some (cond t (Some x.1) (seek xs w)) ≡ true → test w ≡ true
@@ -77,11 +77,11 @@ is_operator operator = true
 
 only_operator : (c : Class) → is_operator c ≡ true → c ≡ operator
 unfolding is_operator
-only_operator blank h = absurd (both_ways _ refl h)
-only_operator comment h = absurd (both_ways _ refl h)
-only_operator namelike h = absurd (both_ways _ refl h)
-only_operator numeric h = absurd (both_ways _ refl h)
-only_operator quotation h = absurd (both_ways _ refl h)
+only_operator blank h = absurd cc
+only_operator comment h = absurd cc
+only_operator namelike h = absurd cc
+only_operator numeric h = absurd cc
+only_operator quotation h = absurd cc
 only_operator operator h = refl
 
 operators_begin : each (λ w. is_operator (class_of w)) operators ≡ true
@@ -94,39 +94,39 @@ operators_short w h = leb-true (length w) 2 (seek_each (λ v. leb (length v) 2) 
 
 pub quoted_some : (t : Bool) (v : Option ℕ) → is_some (quoted t v) ≡ true → t ≡ true
 quoted_some true v h = refl
-quoted_some false v h = absurd (both_ways _ refl h)
+quoted_some false v h = absurd cc
 
 pub quoted_value : (t : Bool) (v : Option ℕ) → is_some (quoted t v) ≡ true → is_some v ≡ true
 quoted_value true v h = h
-quoted_value false v h = absurd (both_ways _ refl h)
+quoted_value false v h = absurd cc
 
 constants_begin : (w : List ℕ) → is_some (constant w) ≡ true → class_of w ≡ quotation
-constants_begin [] h = absurd (both_ways _ refl h)
-constants_begin (a ∷ []) h = absurd (both_ways _ refl h)
-constants_begin (a ∷ b ∷ []) h = absurd (both_ways _ refl h)
+constants_begin [] h = absurd cc
+constants_begin (a ∷ []) h = absurd cc
+constants_begin (a ∷ b ∷ []) h = absurd cc
 constants_begin (a ∷ b ∷ c ∷ []) h = class_first a (b ∷ c ∷ []) quotation (first_quote a (and_parts _ _ (quoted_some _ _ h)).0) refl
 constants_begin (a ∷ b ∷ c ∷ d ∷ []) h = class_first a (b ∷ c ∷ d ∷ []) quotation (first_quote a (and_parts _ _ (and_parts _ _ (quoted_some _ _ h)).0).0) refl
-constants_begin (a ∷ b ∷ c ∷ d ∷ e ∷ w) h = absurd (both_ways _ refl h)
+constants_begin (a ∷ b ∷ c ∷ d ∷ e ∷ w) h = absurd cc
 
 -- a character constant has three or four bytes
 pub constants_short : (w : List ℕ) → is quotation w ≡ true → (length w ≡ 3) ⊎ (length w ≡ 4)
-constants_short [] h = absurd (both_ways _ refl h)
-constants_short (a ∷ []) h = absurd (both_ways _ refl h)
-constants_short (a ∷ b ∷ []) h = absurd (both_ways _ refl h)
+constants_short [] h = absurd cc
+constants_short (a ∷ []) h = absurd cc
+constants_short (a ∷ b ∷ []) h = absurd cc
 constants_short (a ∷ b ∷ c ∷ []) h = inl refl
 constants_short (a ∷ b ∷ c ∷ d ∷ []) h = inr refl
-constants_short (a ∷ b ∷ c ∷ d ∷ e ∷ w) h = absurd (both_ways _ refl h)
+constants_short (a ∷ b ∷ c ∷ d ∷ e ∷ w) h = absurd cc
 
 -- the class of a lexeme
 pub class_is : (c : Class) (w : List ℕ) → is c w ≡ true → class_of w ≡ c
-class_is blank [] h = absurd (both_ways _ refl h)
+class_is blank [] h = absurd cc
 class_is blank (b ∷ []) h = class_first b [] blank (first_blank b h) refl
-class_is blank (b ∷ c ∷ bs) h = absurd (both_ways _ refl h)
-class_is comment [] h = absurd (both_ways _ refl h)
+class_is blank (b ∷ c ∷ bs) h = absurd cc
+class_is comment [] h = absurd cc
 class_is comment (a ∷ w) h = cond-true (is comment (a ∷ w)) _ _ h
-class_is namelike [] h = absurd (both_ways _ refl h)
+class_is namelike [] h = absurd cc
 class_is namelike (b ∷ w) h = class_first b w namelike (first_letter b (and_parts _ _ h).0) refl
-class_is numeric [] h = absurd (both_ways _ refl h)
+class_is numeric [] h = absurd cc
 class_is numeric (b ∷ w) h = class_first b w numeric (first_digit b (and_parts _ _ h).0) refl
 class_is quotation w h = constants_begin w h
 class_is operator w h = only_operator (class_of w) (seek_each (λ v. is_operator (class_of v)) operators w operators_begin h)

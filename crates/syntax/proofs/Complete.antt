@@ -1,5 +1,6 @@
 -- The parser reads back what a tree spells: expressions.
-use Rattle.std.proofs.Common.{◌≡◌, ℕ, zero, suc, ◌≤◌, max, true, false, eqb, List, ◌∷◌, ◌++◌, sym, refl, subst, append_assoc, arith, true-eqb}
+use Rattle.std.proofs.Common.{◌≡◌, ℕ, zero, suc, ◌≤◌, max, true, false, List, ◌∷◌, ◌++◌, refl, append_assoc, arith}
+use Rattle.std.proofs.lemmas.Bool.{eqb-true}
 use Rattle.std.proofs.lemmas.Bool.Decides.{nat_tests}
 use Rattle.syntax.specs.declared.symbol.Symbol.{Symbol}
 use Rattle.syntax.specs.declared.symbol.Symbol.TheVariants as sym
@@ -46,8 +47,8 @@ Closes us = is_front sym.CloseParenthesis us ≡ true
 
 after_terms : (ts : Terms) (l : ℕ) (us : List Token) → AfterExpr us → AfterTerm (spelling.terms keep ts l ++ us)
 after_terms no_terms l us f = f.0
-after_terms (and_term plus p t ts) l us f = ((refl, refl), refl, refl, refl)
-after_terms (and_term minus p t ts) l us f = ((refl, refl), refl, refl, refl)
+after_terms (and_term plus p t ts) l us f = assumption refl
+after_terms (and_term minus p t ts) l us f = assumption refl
 
 after_factors : (fs : Factors) (l : ℕ) (us : List Token) → AfterTerm us → AfterFactor (spelling.factors keep fs l ++ us)
 after_factors no_factors l us f = f.0
@@ -99,14 +100,11 @@ no_terms_reads l = deeper 0 (λ m us h f. rw (f.1, f.2) refl)
 and_term_reads :
     (o : Addop) (p : At) (t : Term) (ts : Terms) (l : ℕ) → Reads p_t (spelling.term keep t l 0) t AfterTerm → Reads p_ts (spelling.terms keep ts l) ts AfterExpr →
     Reads p_ts (spelling.terms keep (and_term o p t ts) l) (and_term o p t ts) AfterExpr
-and_term_reads plus p t ts l r s = deeper (max r.need s.need) (λ m us h f.
+and_term_reads o p t ts l r s = deeper (max r.need s.need) (λ m us h f.
     let a = r.reads m (spelling.terms keep ts l ++ us) (omega arith) (after_terms ts l us f) in
     let b = s.reads m us (omega arith) f in
-    rw (append_assoc, a, b) refl)
-and_term_reads minus p t ts l r s = deeper (max r.need s.need) (λ m us h f.
-    let a = r.reads m (spelling.terms keep ts l ++ us) (omega arith) (after_terms ts l us f) in
-    let b = s.reads m us (omega arith) f in
-    rw (append_assoc, a, b) refl)
+    elim o as (λ o. p_ts (suc m) (spelling.terms keep (and_term o p t ts) l ++ us) ≡ took (and_term o p t ts) us)
+    [ plus ↦ rw (append_assoc, a, b) refl | minus ↦ rw (append_assoc, a, b) refl ])
 
 product_reads :
     (g : Factor) (fs : Factors) (l o : ℕ) → Reads p_f (spelling.factor keep g l o) g AfterFactor → Reads p_fs (spelling.factors keep fs l) fs AfterTerm → Reads p_t (spelling.term keep (product g fs) l o) (product g fs) AfterTerm
@@ -121,18 +119,11 @@ no_factors_reads l = deeper 0 (λ m us h f. rw (f.1, f.2, f.3) refl)
 and_factor_reads :
     (o : Mulop) (p : At) (g : Factor) (fs : Factors) (l : ℕ) → Reads p_f (spelling.factor keep g l 0) g AfterFactor → Reads p_fs (spelling.factors keep fs l) fs AfterTerm →
     Reads p_fs (spelling.factors keep (and_factor o p g fs) l) (and_factor o p g fs) AfterTerm
-and_factor_reads times p g fs l r s = deeper (max r.need s.need) (λ m us h f.
+and_factor_reads o p g fs l r s = deeper (max r.need s.need) (λ m us h f.
     let a = r.reads m (spelling.factors keep fs l ++ us) (omega arith) (after_factors fs l us f) in
     let b = s.reads m us (omega arith) f in
-    rw (append_assoc, a, b) refl)
-and_factor_reads over p g fs l r s = deeper (max r.need s.need) (λ m us h f.
-    let a = r.reads m (spelling.factors keep fs l ++ us) (omega arith) (after_factors fs l us f) in
-    let b = s.reads m us (omega arith) f in
-    rw (append_assoc, a, b) refl)
-and_factor_reads percent p g fs l r s = deeper (max r.need s.need) (λ m us h f.
-    let a = r.reads m (spelling.factors keep fs l ++ us) (omega arith) (after_factors fs l us f) in
-    let b = s.reads m us (omega arith) f in
-    rw (append_assoc, a, b) refl)
+    elim o as (λ o. p_fs (suc m) (spelling.factors keep (and_factor o p g fs) l ++ us) ≡ took (and_factor o p g fs) us)
+    [ times ↦ rw (append_assoc, a, b) refl | over ↦ rw (append_assoc, a, b) refl | percent ↦ rw (append_assoc, a, b) refl ])
 
 -- what may follow a designator
 abbrev pub AfterName : List Token → Type 0
@@ -161,12 +152,12 @@ literal_reads (letter k p) l o = deeper 0 (λ m us h f. refl)
 
 new_reads : (p : At) (x : Name) (q : At) (e : Expr) (r : At) (l o : ℕ) → Reads p_e (spelling.expr keep e (suc l)) e AfterExpr → Reads p_f (spelling.factor keep (new p x q e r) l o) (new p x q e r) AfterFactor
 new_reads p x q e r l o s = deeper s.need (λ m us h f.
-    let a = s.reads m (spelling.sign keep 0 sym.CloseBracket r ∷ us) (omega arith) (((refl, refl), refl, refl, refl), refl, refl) in
+    let a = s.reads m (spelling.sign keep 0 sym.CloseBracket r ∷ us) (omega arith) (assumption refl) in
     rw (append_assoc, a) refl)
 
 parenthesis_reads : (p : At) (e : Expr) (q : At) (l o : ℕ) → Reads p_e (spelling.expr keep e (suc l)) e AfterExpr → Reads p_f (spelling.factor keep (parenthesis p e q) l o) (parenthesis p e q) AfterFactor
 parenthesis_reads p e q l o s = deeper s.need (λ m us h f.
-    let a = s.reads m (spelling.sign keep 0 sym.CloseParenthesis q ∷ us) (omega arith) (((refl, refl), refl, refl, refl), refl, refl) in
+    let a = s.reads m (spelling.sign keep 0 sym.CloseParenthesis q ∷ us) (omega arith) (assumption refl) in
     rw (append_assoc, a) refl)
 
 whole_reads : (x : Name) (l o : ℕ) → Reads p_d (spelling.designator keep (whole x) l o) (whole x) AfterName
@@ -174,57 +165,37 @@ whole_reads x l o = deeper 0 (λ m us h f. rw f refl)
 
 element_reads : (x : Name) (p : At) (e : Expr) (q : At) (l o : ℕ) → Reads p_e (spelling.expr keep e (suc l)) e AfterExpr → Reads p_d (spelling.designator keep (element x p e q) l o) (element x p e q) AfterName
 element_reads x p e q l o s = deeper s.need (λ m us h f.
-    let a = s.reads m (spelling.sign keep 0 sym.CloseBracket q ∷ us) (omega arith) (((refl, refl), refl, refl, refl), refl, refl) in
+    let a = s.reads m (spelling.sign keep 0 sym.CloseBracket q ∷ us) (omega arith) (assumption refl) in
     rw (append_assoc, a) refl)
-
--- what comes at most behind an expression, by its number
-abbrev Behind : ℕ → Type 0
-Behind n = ((((eqb n 31 ≡ false) × (eqb n 33 ≡ false)) × (eqb n 14 ≡ false) × (eqb n 15 ≡ false) × (eqb n 16 ≡ false)) × (eqb n 12 ≡ false) × (eqb n 13 ≡ false)) × (eqb n 29 ≡ false)
-
--- a closing parenthesis is nothing that goes on with an expression or a list
-closing : (us : List Token) → Closes us → AfterExpr us × Not sym.Comma us
-closing us c = subst Behind (sym (true-eqb (front us) 32 (sym c))) (((((refl, refl), refl, refl, refl), refl, refl)), refl)
 
 -- nothing that begins an expression is a closing parenthesis
 not_closing : (us : List Token) → begins_expr (front us) ≡ true → Not sym.CloseParenthesis us
 not_closing us b = grind (arith, nat_tests)
 
 after_more : (m : More) (l : ℕ) (us : List Token) → Closes us → AfterExpr (spelling.more keep m l ++ us)
-after_more no_more l us c = (closing us c).0
-after_more (and_argument p e m) l us c = (((refl, refl), refl, refl, refl), refl, refl)
+after_more no_more l us c = rw (eqb-true (front us) 32 c) (assumption refl)
+after_more (and_argument p e m) l us c = assumption refl
 
 no_arguments_reads : (l : ℕ) → Reads p_as (spelling.argument_list keep no_arguments l) no_arguments Closes
 no_arguments_reads l = deeper 0 (λ m us h f. rw f refl)
 
 arguments_reads :
     (e : Expr) (m : More) (l : ℕ) → Reads p_e (spelling.expr keep e (suc l)) e AfterExpr → Reads p_more (spelling.more keep m l) m Closes → Reads p_as (spelling.argument_list keep (arguments e m) l) (arguments e m) Closes
-arguments_reads e m l r s = record { need = suc (max r.need s.need); reads = go }
-  where
-    go : (n : ℕ) (us : List Token) → suc (max r.need s.need) ≤ n → Closes us → p_as n (spelling.argument_list keep (arguments e m) l ++ us) ≡ took (arguments e m) us
-    go zero us h f = absurd (omega arith)
-    go (suc k) us h f =
-        let a = r.reads k (spelling.more keep m l ++ us) (omega arith) (after_more m l us f) in
-        let b = s.reads k us (omega arith) f in
-        let c = not_closing (spelling.expr keep e (suc l) ++ (spelling.more keep m l ++ us)) (starts_expr e (suc l) (spelling.more keep m l ++ us)) in
-        rw (append_assoc, c, a, b) refl
+arguments_reads e m l r s = deeper (max r.need s.need) (λ k us h f.
+    let a = r.reads k (spelling.more keep m l ++ us) (omega arith) (after_more m l us f) in
+    let b = s.reads k us (omega arith) f in
+    let c = not_closing (spelling.expr keep e (suc l) ++ (spelling.more keep m l ++ us)) (starts_expr e (suc l) (spelling.more keep m l ++ us)) in
+    rw (append_assoc, c, a, b) refl)
 
 no_more_reads : (l : ℕ) → Reads p_more (spelling.more keep no_more l) no_more Closes
-no_more_reads l = record { need = 1; reads = go }
-  where
-    go : (n : ℕ) (us : List Token) → 1 ≤ n → Closes us → p_more n us ≡ took no_more us
-    go zero us h f = absurd (omega arith)
-    go (suc k) us h f = let c = (closing us f).1 in rw c refl
+no_more_reads l = deeper 0 (λ k us h f. rw (eqb-true (front us) 32 f) refl)
 
 and_argument_reads :
     (p : At) (e : Expr) (m : More) (l : ℕ) → Reads p_e (spelling.expr keep e (suc l)) e AfterExpr → Reads p_more (spelling.more keep m l) m Closes → Reads p_more (spelling.more keep (and_argument p e m) l) (and_argument p e m) Closes
-and_argument_reads p e m l r s = record { need = suc (max r.need s.need); reads = go }
-  where
-    go : (n : ℕ) (us : List Token) → suc (max r.need s.need) ≤ n → Closes us → p_more n (spelling.more keep (and_argument p e m) l ++ us) ≡ took (and_argument p e m) us
-    go zero us h f = absurd (omega arith)
-    go (suc k) us h f =
-        let a = r.reads k (spelling.more keep m l ++ us) (omega arith) (after_more m l us f) in
-        let b = s.reads k us (omega arith) f in
-        rw (append_assoc, a, b) refl
+and_argument_reads p e m l r s = deeper (max r.need s.need) (λ k us h f.
+    let a = r.reads k (spelling.more keep m l ++ us) (omega arith) (after_more m l us f) in
+    let b = s.reads k us (omega arith) f in
+    rw (append_assoc, a, b) refl)
 
 mutual
   pub reads_e : (e : Expr) (l : ℕ) → Reads p_e (spelling.expr keep e l) e AfterExpr

@@ -2,7 +2,7 @@
 use Rattle.std.proofs.Common.{◌≡◌, ℕ, zero, suc, ◌<◌, ◌≤◌, Bool, true, false, leb, List, [], ◌∷◌, ◌++◌, length, take, drop, Some, None, Ok, Err, Option, Result, sym, refl, ap, subst, arith}
 use Rattle.std.specs.Result.{result_ok}
 use Rattle.std.proofs.lemmas.List.{append_assoc, append-nil, length-drop}
-use Rattle.std.proofs.lemmas.Bool.{both_ways, leb-true, leb-false}
+use Rattle.std.proofs.lemmas.Bool.{leb-true, leb-false}
 use Rattle.outcomes.specs.declared.Fault.{Fault}
 use Rattle.outcomes.specs.declared.Position.{Position}
 use Rattle.outcomes.specs.declared.Refusal.TheVariants.{TextTooLong, NoToken, NumberTooLarge}
@@ -71,11 +71,11 @@ fitting_fits (Some (symbol s)) h = tt
 
 unfitting_large : (k : Option TokenKind) → fitting k ≡ false → (n : ℕ) × (k ≡ Some (number n)) × (2147483647 < n)
 unfolding fitting
-unfitting_large None h = absurd (both_ways _ h refl)
-unfitting_large (Some (name bs)) h = absurd (both_ways _ h refl)
+unfitting_large None h = absurd cc
+unfitting_large (Some (name bs)) h = absurd cc
 unfitting_large (Some (number n)) h = (n, refl, leb-false n 2147483647 h)
-unfitting_large (Some (character c)) h = absurd (both_ways _ h refl)
-unfitting_large (Some (symbol s)) h = absurd (both_ways _ h refl)
+unfitting_large (Some (character c)) h = absurd cc
+unfitting_large (Some (symbol s)) h = absurd cc
 
 -- the answer for a text, from the tokens before a place and the answer from there on
 abbrev behind_tokens : List Token → Answer → Answer
