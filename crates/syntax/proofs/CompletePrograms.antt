@@ -148,5 +148,4 @@ one_reading ts t u r s =
     let x = a.reads n [] (omega arith) tt in
     let y = b.reads n [] (omega arith) tt in
     let e : spelling.program keep t ≡ spelling.program keep u = sym r.tokens ∙ s.tokens in
-    let z : took t [] ≡ took u [] = sym x ∙ ap (λ l. p_program n (l ++ [])) e ∙ y in
     cc

@@ -6,7 +6,7 @@ use Rattle.words.specs.declared.arithmetic.Relation.{Relation}
 use Rattle.words.specs.declared.arithmetic.Relation.TheVariants as relation
 use Rattle.syntax.specs.declared.symbol.Symbol.TheVariants as sym
 use Rattle.syntax.specs.Tokens.{number, Token, token}
-use Rattle.syntax.specs.Trees.{At, Addop, plus, minus, Expr, Designator, whole, element, Arguments, Comparison, Conjunction, single, both, Condition, only, either, Statement, assign, invoke, step, when, choose, while, break, return, give, read, print, print_wide, block, empty, Statements, none, and_then, closed, nearest, nearest_all}
+use Rattle.syntax.specs.Trees.{At, Addop, plus, minus, whole, Comparison, Conjunction, single, both, Condition, only, either, Statement, assign, invoke, step, when, choose, while, break, return, give, read, print, print_wide, block, empty, Statements, none, and_then, closed, nearest, nearest_all}
 use Rattle.syntax.specs.Spelling as spelling
 use Rattle.syntax.proofs.Fronts.{front, is_front, begins_expr, begins_statement}
 use Rattle.syntax.proofs.Parser.{took, p_relation, p_comparison, p_conjunction, p_condition, p_behind, p_s, p_ss}
@@ -14,20 +14,12 @@ use Rattle.syntax.proofs.Complete.{keep, Reads, deeper, Not, AfterExpr, starts_e
 
 relop_read : (o : Relation) (p : At) (us : List Token) → p_relation (spelling.sign keep 0 (spelling.relop o) p ∷ us) ≡ took o (spelling.sign keep 0 (spelling.relop o) p ∷ us)
 relop_read relation.Equal p us = refl
-relop_read relation.NotEqual p us = refl
-relop_read relation.Less p us = refl
-relop_read relation.LessOrEqual p us = refl
-relop_read relation.Greater p us = refl
-relop_read relation.GreaterOrEqual p us = refl
+relop_read o p us = refl
 
 -- an expression ends before a relation
 relop_ends : (o : Relation) (p : At) (us : List Token) → AfterExpr (spelling.sign keep 0 (spelling.relop o) p ∷ us)
 relop_ends relation.Equal p us = assumption refl
-relop_ends relation.NotEqual p us = assumption refl
-relop_ends relation.Less p us = assumption refl
-relop_ends relation.LessOrEqual p us = assumption refl
-relop_ends relation.Greater p us = assumption refl
-relop_ends relation.GreaterOrEqual p us = assumption refl
+relop_ends o p us = assumption refl
 
 reads_comparison : (c : Comparison) (l : ℕ) → Reads p_comparison (spelling.comparison keep c l) c AfterExpr
 reads_comparison c l =
@@ -80,22 +72,9 @@ reads_condition (either k p c) l =
 -- what statements begin with
 starts_statement : (s : Statement) (l : ℕ) (us : List Token) → begins_statement (front (spelling.statement keep s l ++ us)) ≡ true
 starts_statement (assign (whole x) p e q) l us = refl
-starts_statement (assign (element x p₁ e₁ q₁) p e q) l us = refl
 starts_statement (invoke (whole x) p xs q r) l us = refl
-starts_statement (invoke (element x p₁ e₁ q₁) p xs q r) l us = refl
 starts_statement (step (whole x) o p q) l us = refl
-starts_statement (step (element x p₁ e₁ q₁) o p q) l us = refl
-starts_statement (when p q c r s) l us = refl
-starts_statement (choose p q c r s x t) l us = refl
-starts_statement (while p q c r s) l us = refl
-starts_statement (break p q) l us = refl
-starts_statement (return p q) l us = refl
-starts_statement (give p e q) l us = refl
-starts_statement (read p q d r s) l us = refl
-starts_statement (print p q e r s) l us = refl
-starts_statement (print_wide p q e r w s t u) l us = refl
-starts_statement (block p ss q) l us = refl
-starts_statement (empty p) l us = refl
+starts_statement s l us = refl
 
 -- an open `if` is not followed by an `else`
 abbrev pub ElseFree : Statement → List Token → Type 0
@@ -107,44 +86,13 @@ ClosesBlock us = is_front sym.CloseBrace us ≡ true
 statement_no_else : (us : List Token) → begins_statement (front us) ≡ true → Not sym.Else us × Not sym.CloseBrace us
 statement_no_else us b = (grind (arith, nat_tests), grind (arith, nat_tests))
 
--- what each statement takes to be read
-abbrev ReadsS : Statement → ℕ → Type 0
-ReadsS s l = Reads p_s (spelling.statement keep s l) s (ElseFree s)
-
 abbrev semi : At → List Token → List Token
 semi q us = spelling.sign keep 0 sym.Semicolon q ∷ us
-
-assign_reads : (d : Designator) (p : At) (e : Expr) (q : At) (l : ℕ) → ReadsS (assign d p e q) l
-assign_reads d p e q l = deeper (max (reads_d d l l).need (reads_e e l).need) (λ m us h f.
-    let t = spelling.sign keep 0 sym.Assign p ∷ (spelling.expr keep e l ++ semi q us) in
-    let w : spelling.statement keep (assign d p e q) l ++ us ≡ spelling.designator keep d l l ++ t = simp append_assoc in
-    let a = (reads_d d l l).reads m t (omega arith) refl in
-    let b = (reads_e e l).reads m (semi q us) (omega arith) (assumption refl) in
-    let c = front_designator d l l t in
-    rw (w, c, a, b) refl)
-
-invoke_reads : (d : Designator) (p : At) (xs : Arguments) (q r : At) (l : ℕ) → ReadsS (invoke d p xs q r) l
-invoke_reads d p xs q r l = deeper (max (reads_d d l l).need (reads_as xs l).need) (λ m us h f.
-    let z = spelling.sign keep 0 sym.CloseParenthesis q ∷ semi r us in
-    let t = spelling.sign keep 0 sym.OpenParenthesis p ∷ (spelling.argument_list keep xs l ++ z) in
-    let w : spelling.statement keep (invoke d p xs q r) l ++ us ≡ spelling.designator keep d l l ++ t = simp append_assoc in
-    let a = (reads_d d l l).reads m t (omega arith) refl in
-    let b = (reads_as xs l).reads m z (omega arith) refl in
-    let c = front_designator d l l t in
-    rw (w, c, a, b) refl)
 
 -- a designator ends before `++` and `--`
 doubled_ends : (o : Addop) (p : At) (us : List Token) → Not sym.OpenBracket (spelling.sign keep 0 (spelling.doubled o) p ∷ us)
 doubled_ends plus p us = refl
 doubled_ends minus p us = refl
-
-step_reads : (d : Designator) (o : Addop) (p q : At) (l : ℕ) → ReadsS (step d o p q) l
-step_reads d o p q l = deeper (reads_d d l l).need (λ m us h f.
-    let t = spelling.sign keep 0 (spelling.doubled o) p ∷ semi q us in
-    let w : spelling.statement keep (step d o p q) l ++ us ≡ spelling.designator keep d l l ++ t = simp append_assoc in
-    let a = (reads_d d l l).reads m t (omega arith) (doubled_ends o p (semi q us)) in
-    let c = front_designator d l l t in
-    rw (w, c, a) (elim o as (λ o. p_behind m d (spelling.sign keep 0 (spelling.doubled o) p ∷ semi q us) ≡ took (step d o p q) us) [ plus ↦ refl | minus ↦ refl ]))
 
 -- the condition of an `if` or `while`, with the parenthesis behind it
 head_reads :
@@ -152,102 +100,91 @@ head_reads :
     p_condition m (spelling.condition keep c l ++ spelling.sign keep 0 sym.CloseParenthesis r ∷ us) ≡ took c (spelling.sign keep 0 sym.CloseParenthesis r ∷ us)
 head_reads c r l m us h = (reads_condition c l).reads m (spelling.sign keep 0 sym.CloseParenthesis r ∷ us) h (assumption refl)
 
-when_reads : (p q : At) (c : Condition) (r : At) (s : Statement) (l : ℕ) → ReadsS s (suc l) → ReadsS (when p q c r s) l
-when_reads p q c r s l x = deeper (max (reads_condition c l).need x.need) (λ m us h f.
-    let a = head_reads c r l m (spelling.statement keep s (suc l) ++ us) (omega arith) in
-    let b = x.reads m us (omega arith) (λ _. f refl) in
-    let g = f refl in
-    simp append_assoc (rw (a, b, g) refl))
-
-choose_reads : (p q : At) (c : Condition) (r : At) (s : Statement) (y : At) (t : Statement) (l : ℕ) → closed s ≡ true → ReadsS s (suc l) → ReadsS t (suc l) → ReadsS (choose p q c r s y t) l
-choose_reads p q c r s y t l k x z = deeper (max (reads_condition c l).need (max x.need z.need)) (λ m us h f.
-    let v = spelling.sign keep 0 sym.Else y ∷ (spelling.statement keep t (suc l) ++ us) in
-    let a = head_reads c r l m (spelling.statement keep s (suc l) ++ v) (omega arith) in
-    let b = x.reads m v (omega arith) (λ e. absurd (both_ways _ e k)) in
-    let d = z.reads m us (omega arith) f in
-    simp append_assoc (rw (a, b, d) refl))
-
-while_reads : (p q : At) (c : Condition) (r : At) (s : Statement) (l : ℕ) → ReadsS s (suc l) → ReadsS (while p q c r s) l
-while_reads p q c r s l x = deeper (max (reads_condition c l).need x.need) (λ m us h f.
-    let a = head_reads c r l m (spelling.statement keep s (suc l) ++ us) (omega arith) in
-    let b = x.reads m us (omega arith) f in
-    simp append_assoc (rw (a, b) refl))
-
-break_reads : (p q : At) (l : ℕ) → ReadsS (break p q) l
-break_reads p q l = deeper 0 (λ m us h f. refl)
-
-return_reads : (p q : At) (l : ℕ) → ReadsS (return p q) l
-return_reads p q l = deeper 0 (λ m us h f. refl)
-
 not_semi : (us : List Token) → begins_expr (front us) ≡ true → Not sym.Semicolon us
 not_semi us b = grind (arith, nat_tests)
-
-give_reads : (p : At) (e : Expr) (q : At) (l : ℕ) → ReadsS (give p e q) l
-give_reads p e q l = deeper (reads_e e l).need (λ m us h f.
-    let a = (reads_e e l).reads m (semi q us) (omega arith) (assumption refl) in
-    let c = not_semi (spelling.expr keep e l ++ semi q us) (starts_expr e l (semi q us)) in
-    rw (append_assoc, c, a) refl)
-
-read_reads : (p q : At) (d : Designator) (r s : At) (l : ℕ) → ReadsS (read p q d r s) l
-read_reads p q d r s l = deeper (reads_d d l 0).need (λ m us h f.
-    let a = (reads_d d l 0).reads m (spelling.sign keep 0 sym.CloseParenthesis r ∷ semi s us) (omega arith) refl in
-    rw (append_assoc, a) refl)
-
-print_reads : (p q : At) (e : Expr) (r s : At) (l : ℕ) → ReadsS (print p q e r s) l
-print_reads p q e r s l = deeper (reads_e e l).need (λ m us h f.
-    let a = (reads_e e l).reads m (spelling.sign keep 0 sym.CloseParenthesis r ∷ semi s us) (omega arith) (assumption refl) in
-    rw (append_assoc, a) refl)
-
-print_wide_reads : (p q : At) (e : Expr) (r : At) (w : ℕ) (s t u : At) (l : ℕ) → ReadsS (print_wide p q e r w s t u) l
-print_wide_reads p q e r w s t u l = deeper (reads_e e l).need (λ m us h f.
-    let a = (reads_e e l).reads m (spelling.sign keep 0 sym.Comma r ∷ (token (number w) s ∷ (spelling.sign keep 0 sym.CloseParenthesis t ∷ semi u us))) (omega arith) (assumption refl) in
-    rw (append_assoc, a) refl)
-
-block_reads : (p : At) (ss : Statements) (q : At) (l : ℕ) → Reads p_ss (spelling.statements keep ss (suc l)) ss ClosesBlock → ReadsS (block p ss q) l
-block_reads p ss q l x = deeper x.need (λ m us h f.
-    let a = x.reads m (spelling.sign keep 0 sym.CloseBrace q ∷ us) (omega arith) refl in
-    rw (append_assoc, a) refl)
-
-empty_reads : (p : At) (l : ℕ) → ReadsS (empty p) l
-empty_reads p l = deeper 0 (λ m us h f. refl)
-
-none_reads : (l : ℕ) → Reads p_ss (spelling.statements keep none l) none ClosesBlock
-none_reads l = deeper 0 (λ m us h f. rw f refl)
 
 no_else_behind : (ss : Statements) (l : ℕ) (us : List Token) → ClosesBlock us → Not sym.Else (spelling.statements keep ss l ++ us)
 no_else_behind none l us c = rw (eqb-true (front us) 36 c) refl
 no_else_behind (and_then s ss) l us c = rw append_assoc (statement_no_else (spelling.statement keep s l ++ (spelling.statements keep ss l ++ us)) (starts_statement s l (spelling.statements keep ss l ++ us))).0
 
-and_then_reads : (s : Statement) (ss : Statements) (l : ℕ) → ReadsS s l → Reads p_ss (spelling.statements keep ss l) ss ClosesBlock → Reads p_ss (spelling.statements keep (and_then s ss) l) (and_then s ss) ClosesBlock
-and_then_reads s ss l x z = deeper (max x.need z.need) (λ m us h f.
-    let v = spelling.statements keep ss l ++ us in
-    let a = x.reads m v (omega arith) (λ _. no_else_behind ss l us f) in
-    let b = z.reads m us (omega arith) f in
-    let c = (statement_no_else (spelling.statement keep s l ++ v) (starts_statement s l v)).1 in
-    rw (append_assoc, c, a, b) refl)
-
 mutual
-  pub reads_statement : (s : Statement) (l : ℕ) → nearest s ≡ true → ReadsS s l
-  reads_statement (assign d p e q) l h = assign_reads d p e q l
-  reads_statement (invoke d p xs q r) l h = invoke_reads d p xs q r l
-  reads_statement (step d o p q) l h = step_reads d o p q l
-  reads_statement (when p q c r s) l h = when_reads p q c r s l (reads_statement s (suc l) h)
-  reads_statement (choose p q c r s x t) l h =
-      let a = and_parts (closed s) (nearest s && nearest t) h in
-      let b = and_parts (nearest s) (nearest t) a.1 in
-      choose_reads p q c r s x t l a.0 (reads_statement s (suc l) b.0) (reads_statement t (suc l) b.1)
-  reads_statement (while p q c r s) l h = while_reads p q c r s l (reads_statement s (suc l) h)
-  reads_statement (break p q) l h = break_reads p q l
-  reads_statement (return p q) l h = return_reads p q l
-  reads_statement (give p e q) l h = give_reads p e q l
-  reads_statement (read p q d r s) l h = read_reads p q d r s l
-  reads_statement (print p q e r s) l h = print_reads p q e r s l
-  reads_statement (print_wide p q e r w s t u) l h = print_wide_reads p q e r w s t u l
-  reads_statement (block p ss q) l h = block_reads p ss q l (reads_statements ss (suc l) h)
-  reads_statement (empty p) l h = empty_reads p l
+  pub reads_statement : (s : Statement) (l : ℕ) → nearest s ≡ true → Reads p_s (spelling.statement keep s l) s (ElseFree s)
+  reads_statement (assign d p e q) l n = deeper (max (reads_d d l l).need (reads_e e l).need) (λ m us h f.
+      let t = spelling.sign keep 0 sym.Assign p ∷ (spelling.expr keep e l ++ semi q us) in
+      let w : spelling.statement keep (assign d p e q) l ++ us ≡ spelling.designator keep d l l ++ t = simp append_assoc in
+      let a = (reads_d d l l).reads m t (omega arith) refl in
+      let b = (reads_e e l).reads m (semi q us) (omega arith) (assumption refl) in
+      let c = front_designator d l l t in
+      rw (w, c, a, b) refl)
+  reads_statement (invoke d p xs q r) l n = deeper (max (reads_d d l l).need (reads_as xs l).need) (λ m us h f.
+      let z = spelling.sign keep 0 sym.CloseParenthesis q ∷ semi r us in
+      let t = spelling.sign keep 0 sym.OpenParenthesis p ∷ (spelling.argument_list keep xs l ++ z) in
+      let w : spelling.statement keep (invoke d p xs q r) l ++ us ≡ spelling.designator keep d l l ++ t = simp append_assoc in
+      let a = (reads_d d l l).reads m t (omega arith) refl in
+      let b = (reads_as xs l).reads m z (omega arith) refl in
+      let c = front_designator d l l t in
+      rw (w, c, a, b) refl)
+  reads_statement (step d o p q) l n = deeper (reads_d d l l).need (λ m us h f.
+      let t = spelling.sign keep 0 (spelling.doubled o) p ∷ semi q us in
+      let w : spelling.statement keep (step d o p q) l ++ us ≡ spelling.designator keep d l l ++ t = simp append_assoc in
+      let a = (reads_d d l l).reads m t (omega arith) (doubled_ends o p (semi q us)) in
+      let c = front_designator d l l t in
+      rw (w, c, a) (elim o as (λ o. p_behind m d (spelling.sign keep 0 (spelling.doubled o) p ∷ semi q us) ≡ took (step d o p q) us) [ plus ↦ refl | minus ↦ refl ]))
+  reads_statement (when p q c r s) l n =
+      let x = reads_statement s (suc l) n in
+      deeper (max (reads_condition c l).need x.need) (λ m us h f.
+      let a = head_reads c r l m (spelling.statement keep s (suc l) ++ us) (omega arith) in
+      let b = x.reads m us (omega arith) (λ _. f refl) in
+      let g = f refl in
+      simp append_assoc (rw (a, b, g) refl))
+  reads_statement (choose p q c r s y t) l n =
+      let k = and_parts (closed s) (nearest s && nearest t) n in
+      let i = and_parts (nearest s) (nearest t) k.1 in
+      let x = reads_statement s (suc l) i.0 in
+      let z = reads_statement t (suc l) i.1 in
+      deeper (max (reads_condition c l).need (max x.need z.need)) (λ m us h f.
+      let v = spelling.sign keep 0 sym.Else y ∷ (spelling.statement keep t (suc l) ++ us) in
+      let a = head_reads c r l m (spelling.statement keep s (suc l) ++ v) (omega arith) in
+      let b = x.reads m v (omega arith) (λ e. absurd (both_ways _ e k.0)) in
+      let d = z.reads m us (omega arith) f in
+      simp append_assoc (rw (a, b, d) refl))
+  reads_statement (while p q c r s) l n =
+      let x = reads_statement s (suc l) n in
+      deeper (max (reads_condition c l).need x.need) (λ m us h f.
+      let a = head_reads c r l m (spelling.statement keep s (suc l) ++ us) (omega arith) in
+      let b = x.reads m us (omega arith) f in
+      simp append_assoc (rw (a, b) refl))
+  reads_statement (break p q) l n = deeper 0 (λ m us h f. refl)
+  reads_statement (return p q) l n = deeper 0 (λ m us h f. refl)
+  reads_statement (give p e q) l n = deeper (reads_e e l).need (λ m us h f.
+      let a = (reads_e e l).reads m (semi q us) (omega arith) (assumption refl) in
+      let c = not_semi (spelling.expr keep e l ++ semi q us) (starts_expr e l (semi q us)) in
+      rw (append_assoc, c, a) refl)
+  reads_statement (read p q d r s) l n = deeper (reads_d d l 0).need (λ m us h f.
+      let a = (reads_d d l 0).reads m (spelling.sign keep 0 sym.CloseParenthesis r ∷ semi s us) (omega arith) refl in
+      rw (append_assoc, a) refl)
+  reads_statement (print p q e r s) l n = deeper (reads_e e l).need (λ m us h f.
+      let a = (reads_e e l).reads m (spelling.sign keep 0 sym.CloseParenthesis r ∷ semi s us) (omega arith) (assumption refl) in
+      rw (append_assoc, a) refl)
+  reads_statement (print_wide p q e r w s t u) l n = deeper (reads_e e l).need (λ m us h f.
+      let a = (reads_e e l).reads m (spelling.sign keep 0 sym.Comma r ∷ (token (number w) s ∷ (spelling.sign keep 0 sym.CloseParenthesis t ∷ semi u us))) (omega arith) (assumption refl) in
+      rw (append_assoc, a) refl)
+  reads_statement (block p ss q) l n =
+      let x = reads_statements ss (suc l) n in
+      deeper x.need (λ m us h f.
+      let a = x.reads m (spelling.sign keep 0 sym.CloseBrace q ∷ us) (omega arith) refl in
+      rw (append_assoc, a) refl)
+  reads_statement (empty p) l n = deeper 0 (λ m us h f. refl)
 
   pub reads_statements : (ss : Statements) (l : ℕ) → nearest_all ss ≡ true → Reads p_ss (spelling.statements keep ss l) ss ClosesBlock
-  reads_statements none l h = none_reads l
-  reads_statements (and_then s ss) l h =
-      let a = and_parts (nearest s) (nearest_all ss) h in
-      and_then_reads s ss l (reads_statement s l a.0) (reads_statements ss l a.1)
+  reads_statements none l n = deeper 0 (λ m us h f. rw f refl)
+  reads_statements (and_then s ss) l n =
+      let i = and_parts (nearest s) (nearest_all ss) n in
+      let x = reads_statement s l i.0 in
+      let z = reads_statements ss l i.1 in
+      deeper (max x.need z.need) (λ m us h f.
+      let v = spelling.statements keep ss l ++ us in
+      let a = x.reads m v (omega arith) (λ _. no_else_behind ss l us f) in
+      let b = z.reads m us (omega arith) f in
+      let c = (statement_no_else (spelling.statement keep s l ++ v) (starts_statement s l v)).1 in
+      rw (append_assoc, c, a, b) refl)
