@@ -1,6 +1,6 @@
 -- The longest lexeme at the front of the bytes, computed.
-use Rattle.std.proofs.Common.{◌≡◌, ℕ, suc, ◌≤◌, Bool, true, false, cond, eqb, List, [], ◌∷◌, length, take, Some, None, Option, sym, refl, ◌∙◌, subst, arith}
-use Rattle.std.proofs.lemmas.Bool.{eqb-true, both_ways, and_parts, cond-false}
+use Rattle.std.proofs.Common.{◌≡◌, ℕ, suc, ◌≤◌, Bool, true, false, cond, eqb, List, [], ◌∷◌, length, take, Some, None, Option, refl, subst, arith}
+use Rattle.std.proofs.lemmas.Bool.{eqb-true, and_parts}
 use Rattle.syntax.specs.Lexemes.{is_letter, is_digit, is_name_part, is_blank, Class, blank, comment, namelike, numeric, quotation, operator, is, Lexeme, Longest, NoLexeme}
 use Rattle.syntax.proofs.Classes.{by_first, empty_none}
 use Rattle.syntax.proofs.Longest.{in_line, lexeme, Run, run_more, run_none, run_empty, name_longest, number_longest, blank_longest, comment_longest, operator_longest, operator_none, constant_longest, constant_none}
@@ -74,15 +74,14 @@ quote_found : (b : ℕ) (bs : List ℕ) → eqb b 39 ≡ true → Found (b ∷ b
 unfolding quote_at
 quote_found b [] q = constant_none b [] q (λ l. absurd (omega arith)) (λ l. absurd (omega arith))
 quote_found b (c ∷ []) q = constant_none b (c ∷ []) q (λ l. absurd (omega arith)) (λ l. absurd (omega arith))
-quote_found b (c ∷ d ∷ []) q = constant_found _ false b (c ∷ d ∷ []) q (omega arith) refl (λ h. absurd (both_ways _ refl h)) (λ l. absurd (omega arith))
+quote_found b (c ∷ d ∷ []) q = constant_found _ false b (c ∷ d ∷ []) q (omega arith) refl (λ h. absurd cc) (λ l. absurd (omega arith))
 quote_found b (c ∷ d ∷ e ∷ bs) q = constant_found _ _ b (c ∷ d ∷ e ∷ bs) q (omega arith) refl (λ h. omega arith) (λ l. refl)
 
 slashes_found : (a b : ℕ) (bs : List ℕ) → is comment (a ∷ b ∷ []) ≡ true → Longest (a ∷ b ∷ bs) (lexeme comment (suc (suc (front in_line bs))))
 slashes_found a b bs h =
     let first : a ≡ 47 = eqb-true a 47 (and_parts _ _ (and_parts _ _ h).0).0 in
     let second : b ≡ 47 = eqb-true b 47 (and_parts _ _ (and_parts _ _ h).0).1 in
-    subst (λ (x : ℕ). Longest (x ∷ b ∷ bs) (lexeme comment (suc (suc (front in_line bs))))) (sym first)
-    (subst (λ (x : ℕ). Longest (47 ∷ x ∷ bs) (lexeme comment (suc (suc (front in_line bs))))) (sym second) (comment_longest bs _ (front_run in_line bs)))
+    rw (first, second) (comment_longest bs _ (front_run in_line bs))
 
 operator_found :
     (t u v : Bool) (a b : ℕ) (bs : List ℕ) → by_first a ≡ operator → is comment (a ∷ b ∷ []) ≡ t → is operator (a ∷ b ∷ []) ≡ u → is operator (a ∷ []) ≡ v →
@@ -112,7 +111,7 @@ first_found true d s q b bs hl hd hs hq = name_longest b bs _ hl (front_run is_n
 first_found false true s q b bs hl hd hs hq = number_longest b bs _ hd (front_run is_digit bs)
 first_found false false true q b bs hl hd hs hq = blank_longest b bs hs
 first_found false false false true b bs hl hd hs hq = quote_found b bs hq
-first_found false false false false b bs hl hd hs hq = sign_found b bs (cond-false _ _ _ hl ∙ cond-false _ _ _ hd ∙ cond-false _ _ _ hs ∙ cond-false _ _ _ hq)
+first_found false false false false b bs hl hd hs hq = sign_found b bs (rw (hl, hd, hs, hq) refl)
 
 best_found : (bs : List ℕ) → Found bs (best bs)
 unfolding best

@@ -1,10 +1,11 @@
 -- The parser reads back what a tree spells: expressions.
-use Rattle.std.proofs.Common.{◌≡◌, ℕ, zero, suc, ◌≤◌, max, true, false, eqb, List, ◌∷◌, ◌++◌, sym, refl, subst, append_assoc, arith, true-eqb}
+use Rattle.std.proofs.Common.{◌≡◌, ℕ, zero, suc, ◌≤◌, max, true, false, List, ◌∷◌, ◌++◌, refl, append_assoc, arith}
+use Rattle.std.proofs.lemmas.Bool.{eqb-true}
 use Rattle.std.proofs.lemmas.Bool.Decides.{nat_tests}
 use Rattle.syntax.specs.declared.symbol.Symbol.{Symbol}
 use Rattle.syntax.specs.declared.symbol.Symbol.TheVariants as sym
 use Rattle.syntax.specs.Tokens.{Token}
-use Rattle.syntax.specs.Trees.{At, Name, Addop, plus, minus, Mulop, times, over, percent, Literal, integer, letter, Expr, positive, negative, Terms, no_terms, and_term, Term, product, Factors, no_factors, and_factor, Factor, value, call, literal, new, parenthesis, Designator, whole, element, Arguments, no_arguments, arguments, More, no_more, and_argument}
+use Rattle.syntax.specs.Trees.{plus, minus, times, over, percent, integer, letter, Expr, positive, negative, Terms, no_terms, and_term, Term, product, Factors, no_factors, and_factor, Factor, value, call, literal, new, parenthesis, Designator, whole, element, Arguments, no_arguments, arguments, More, no_more, and_argument}
 use Rattle.syntax.specs.Spelling as spelling
 use Rattle.syntax.proofs.Fronts.{a_name, front, is_front, begins_expr}
 use Rattle.syntax.proofs.Parser.{took, Parse, p_e, p_ts, p_t, p_fs, p_f, p_d, p_as, p_more}
@@ -46,8 +47,8 @@ Closes us = is_front sym.CloseParenthesis us ≡ true
 
 after_terms : (ts : Terms) (l : ℕ) (us : List Token) → AfterExpr us → AfterTerm (spelling.terms keep ts l ++ us)
 after_terms no_terms l us f = f.0
-after_terms (and_term plus p t ts) l us f = ((refl, refl), refl, refl, refl)
-after_terms (and_term minus p t ts) l us f = ((refl, refl), refl, refl, refl)
+after_terms (and_term plus p t ts) l us f = assumption refl
+after_terms (and_term minus p t ts) l us f = assumption refl
 
 after_factors : (fs : Factors) (l : ℕ) (us : List Token) → AfterTerm us → AfterFactor (spelling.factors keep fs l ++ us)
 after_factors no_factors l us f = f.0
@@ -63,13 +64,9 @@ front_designator (element x p e q) l o us = refl
 -- no factor begins with a minus
 starts_factor : (f : Factor) (l o : ℕ) (us : List Token) → (begins_expr (front (spelling.factor keep f l o ++ us)) ≡ true) × Not sym.Minus (spelling.factor keep f l o ++ us)
 starts_factor (value (whole x)) l o us = (refl, refl)
-starts_factor (value (element x p e q)) l o us = (refl, refl)
 starts_factor (call (whole x) p xs q) l o us = (refl, refl)
-starts_factor (call (element x p₁ e q₁) p xs q) l o us = (refl, refl)
 starts_factor (literal (integer n p)) l o us = (refl, refl)
-starts_factor (literal (letter c p)) l o us = (refl, refl)
-starts_factor (new p x q e r) l o us = (refl, refl)
-starts_factor (parenthesis p e q) l o us = (refl, refl)
+starts_factor f l o us = (refl, refl)
 
 starts_term : (t : Term) (l o : ℕ) (us : List Token) → (begins_expr (front (spelling.term keep t l o ++ us)) ≡ true) × Not sym.Minus (spelling.term keep t l o ++ us)
 starts_term (product f fs) l o us = rw append_assoc (starts_factor f l o (spelling.factors keep fs l ++ us))
@@ -78,185 +75,122 @@ pub starts_expr : (e : Expr) (l : ℕ) (us : List Token) → begins_expr (front 
 starts_expr (positive t ts) l us = rw append_assoc (starts_term t l l (spelling.terms keep ts l ++ us)).0
 starts_expr (negative p t ts) l us = refl
 
-positive_reads :
-    (t : Term) (ts : Terms) (l : ℕ) → Reads p_t (spelling.term keep t l l) t AfterTerm → Reads p_ts (spelling.terms keep ts l) ts AfterExpr → Reads p_e (spelling.expr keep (positive t ts) l) (positive t ts) AfterExpr
-positive_reads t ts l r s = deeper (max r.need s.need) (λ m us h f.
-    let a = r.reads m (spelling.terms keep ts l ++ us) (omega arith) (after_terms ts l us f) in
-    let b = s.reads m us (omega arith) f in
-    let c = (starts_term t l l (spelling.terms keep ts l ++ us)).1 in
-    rw (append_assoc, c, a, b) refl)
-
-negative_reads :
-    (p : At) (t : Term) (ts : Terms) (l : ℕ) → Reads p_t (spelling.term keep t l 0) t AfterTerm → Reads p_ts (spelling.terms keep ts l) ts AfterExpr → Reads p_e (spelling.expr keep (negative p t ts) l) (negative p t ts) AfterExpr
-negative_reads p t ts l r s = deeper (max r.need s.need) (λ m us h f.
-    let a = r.reads m (spelling.terms keep ts l ++ us) (omega arith) (after_terms ts l us f) in
-    let b = s.reads m us (omega arith) f in
-    rw (append_assoc, a, b) refl)
-
-no_terms_reads : (l : ℕ) → Reads p_ts (spelling.terms keep no_terms l) no_terms AfterExpr
-no_terms_reads l = deeper 0 (λ m us h f. rw (f.1, f.2) refl)
-
-and_term_reads :
-    (o : Addop) (p : At) (t : Term) (ts : Terms) (l : ℕ) → Reads p_t (spelling.term keep t l 0) t AfterTerm → Reads p_ts (spelling.terms keep ts l) ts AfterExpr →
-    Reads p_ts (spelling.terms keep (and_term o p t ts) l) (and_term o p t ts) AfterExpr
-and_term_reads plus p t ts l r s = deeper (max r.need s.need) (λ m us h f.
-    let a = r.reads m (spelling.terms keep ts l ++ us) (omega arith) (after_terms ts l us f) in
-    let b = s.reads m us (omega arith) f in
-    rw (append_assoc, a, b) refl)
-and_term_reads minus p t ts l r s = deeper (max r.need s.need) (λ m us h f.
-    let a = r.reads m (spelling.terms keep ts l ++ us) (omega arith) (after_terms ts l us f) in
-    let b = s.reads m us (omega arith) f in
-    rw (append_assoc, a, b) refl)
-
-product_reads :
-    (g : Factor) (fs : Factors) (l o : ℕ) → Reads p_f (spelling.factor keep g l o) g AfterFactor → Reads p_fs (spelling.factors keep fs l) fs AfterTerm → Reads p_t (spelling.term keep (product g fs) l o) (product g fs) AfterTerm
-product_reads g fs l o r s = deeper (max r.need s.need) (λ m us h f.
-    let a = r.reads m (spelling.factors keep fs l ++ us) (omega arith) (after_factors fs l us f) in
-    let b = s.reads m us (omega arith) f in
-    rw (append_assoc, a, b) refl)
-
-no_factors_reads : (l : ℕ) → Reads p_fs (spelling.factors keep no_factors l) no_factors AfterTerm
-no_factors_reads l = deeper 0 (λ m us h f. rw (f.1, f.2, f.3) refl)
-
-and_factor_reads :
-    (o : Mulop) (p : At) (g : Factor) (fs : Factors) (l : ℕ) → Reads p_f (spelling.factor keep g l 0) g AfterFactor → Reads p_fs (spelling.factors keep fs l) fs AfterTerm →
-    Reads p_fs (spelling.factors keep (and_factor o p g fs) l) (and_factor o p g fs) AfterTerm
-and_factor_reads times p g fs l r s = deeper (max r.need s.need) (λ m us h f.
-    let a = r.reads m (spelling.factors keep fs l ++ us) (omega arith) (after_factors fs l us f) in
-    let b = s.reads m us (omega arith) f in
-    rw (append_assoc, a, b) refl)
-and_factor_reads over p g fs l r s = deeper (max r.need s.need) (λ m us h f.
-    let a = r.reads m (spelling.factors keep fs l ++ us) (omega arith) (after_factors fs l us f) in
-    let b = s.reads m us (omega arith) f in
-    rw (append_assoc, a, b) refl)
-and_factor_reads percent p g fs l r s = deeper (max r.need s.need) (λ m us h f.
-    let a = r.reads m (spelling.factors keep fs l ++ us) (omega arith) (after_factors fs l us f) in
-    let b = s.reads m us (omega arith) f in
-    rw (append_assoc, a, b) refl)
-
 -- what may follow a designator
 abbrev pub AfterName : List Token → Type 0
 AfterName us = Not sym.OpenBracket us
-
-value_reads : (d : Designator) (l o : ℕ) → Reads p_d (spelling.designator keep d l o) d AfterName → Reads p_f (spelling.factor keep (value d) l o) (value d) AfterFactor
-value_reads d l o r = deeper r.need (λ m us h f.
-    let a = r.reads m us (omega arith) f.1 in
-    let c = front_designator d l o us in
-    rw (c, a, f.0) refl)
-
-call_reads :
-    (d : Designator) (p : At) (xs : Arguments) (q : At) (l o : ℕ) → Reads p_d (spelling.designator keep d l o) d AfterName → Reads p_as (spelling.argument_list keep xs l) xs Closes →
-    Reads p_f (spelling.factor keep (call d p xs q) l o) (call d p xs q) AfterFactor
-call_reads d p xs q l o r s = deeper (max r.need s.need) (λ m us h f.
-    let rest = spelling.sign keep 0 sym.OpenParenthesis p ∷ (spelling.argument_list keep xs l ++ spelling.sign keep 0 sym.CloseParenthesis q ∷ us) in
-    let e : spelling.factor keep (call d p xs q) l o ++ us ≡ spelling.designator keep d l o ++ rest = simp append_assoc in
-    let a = r.reads m rest (omega arith) refl in
-    let b = s.reads m (spelling.sign keep 0 sym.CloseParenthesis q ∷ us) (omega arith) refl in
-    let c = front_designator d l o rest in
-    rw (e, c, a, b) refl)
-
-literal_reads : (x : Literal) (l o : ℕ) → Reads p_f (spelling.factor keep (literal x) l o) (literal x) AfterFactor
-literal_reads (integer k p) l o = deeper 0 (λ m us h f. refl)
-literal_reads (letter k p) l o = deeper 0 (λ m us h f. refl)
-
-new_reads : (p : At) (x : Name) (q : At) (e : Expr) (r : At) (l o : ℕ) → Reads p_e (spelling.expr keep e (suc l)) e AfterExpr → Reads p_f (spelling.factor keep (new p x q e r) l o) (new p x q e r) AfterFactor
-new_reads p x q e r l o s = deeper s.need (λ m us h f.
-    let a = s.reads m (spelling.sign keep 0 sym.CloseBracket r ∷ us) (omega arith) (((refl, refl), refl, refl, refl), refl, refl) in
-    rw (append_assoc, a) refl)
-
-parenthesis_reads : (p : At) (e : Expr) (q : At) (l o : ℕ) → Reads p_e (spelling.expr keep e (suc l)) e AfterExpr → Reads p_f (spelling.factor keep (parenthesis p e q) l o) (parenthesis p e q) AfterFactor
-parenthesis_reads p e q l o s = deeper s.need (λ m us h f.
-    let a = s.reads m (spelling.sign keep 0 sym.CloseParenthesis q ∷ us) (omega arith) (((refl, refl), refl, refl, refl), refl, refl) in
-    rw (append_assoc, a) refl)
-
-whole_reads : (x : Name) (l o : ℕ) → Reads p_d (spelling.designator keep (whole x) l o) (whole x) AfterName
-whole_reads x l o = deeper 0 (λ m us h f. rw f refl)
-
-element_reads : (x : Name) (p : At) (e : Expr) (q : At) (l o : ℕ) → Reads p_e (spelling.expr keep e (suc l)) e AfterExpr → Reads p_d (spelling.designator keep (element x p e q) l o) (element x p e q) AfterName
-element_reads x p e q l o s = deeper s.need (λ m us h f.
-    let a = s.reads m (spelling.sign keep 0 sym.CloseBracket q ∷ us) (omega arith) (((refl, refl), refl, refl, refl), refl, refl) in
-    rw (append_assoc, a) refl)
-
--- what comes at most behind an expression, by its number
-abbrev Behind : ℕ → Type 0
-Behind n = ((((eqb n 31 ≡ false) × (eqb n 33 ≡ false)) × (eqb n 14 ≡ false) × (eqb n 15 ≡ false) × (eqb n 16 ≡ false)) × (eqb n 12 ≡ false) × (eqb n 13 ≡ false)) × (eqb n 29 ≡ false)
-
--- a closing parenthesis is nothing that goes on with an expression or a list
-closing : (us : List Token) → Closes us → AfterExpr us × Not sym.Comma us
-closing us c = subst Behind (sym (true-eqb (front us) 32 (sym c))) (((((refl, refl), refl, refl, refl), refl, refl)), refl)
 
 -- nothing that begins an expression is a closing parenthesis
 not_closing : (us : List Token) → begins_expr (front us) ≡ true → Not sym.CloseParenthesis us
 not_closing us b = grind (arith, nat_tests)
 
 after_more : (m : More) (l : ℕ) (us : List Token) → Closes us → AfterExpr (spelling.more keep m l ++ us)
-after_more no_more l us c = (closing us c).0
-after_more (and_argument p e m) l us c = (((refl, refl), refl, refl, refl), refl, refl)
-
-no_arguments_reads : (l : ℕ) → Reads p_as (spelling.argument_list keep no_arguments l) no_arguments Closes
-no_arguments_reads l = deeper 0 (λ m us h f. rw f refl)
-
-arguments_reads :
-    (e : Expr) (m : More) (l : ℕ) → Reads p_e (spelling.expr keep e (suc l)) e AfterExpr → Reads p_more (spelling.more keep m l) m Closes → Reads p_as (spelling.argument_list keep (arguments e m) l) (arguments e m) Closes
-arguments_reads e m l r s = record { need = suc (max r.need s.need); reads = go }
-  where
-    go : (n : ℕ) (us : List Token) → suc (max r.need s.need) ≤ n → Closes us → p_as n (spelling.argument_list keep (arguments e m) l ++ us) ≡ took (arguments e m) us
-    go zero us h f = absurd (omega arith)
-    go (suc k) us h f =
-        let a = r.reads k (spelling.more keep m l ++ us) (omega arith) (after_more m l us f) in
-        let b = s.reads k us (omega arith) f in
-        let c = not_closing (spelling.expr keep e (suc l) ++ (spelling.more keep m l ++ us)) (starts_expr e (suc l) (spelling.more keep m l ++ us)) in
-        rw (append_assoc, c, a, b) refl
-
-no_more_reads : (l : ℕ) → Reads p_more (spelling.more keep no_more l) no_more Closes
-no_more_reads l = record { need = 1; reads = go }
-  where
-    go : (n : ℕ) (us : List Token) → 1 ≤ n → Closes us → p_more n us ≡ took no_more us
-    go zero us h f = absurd (omega arith)
-    go (suc k) us h f = let c = (closing us f).1 in rw c refl
-
-and_argument_reads :
-    (p : At) (e : Expr) (m : More) (l : ℕ) → Reads p_e (spelling.expr keep e (suc l)) e AfterExpr → Reads p_more (spelling.more keep m l) m Closes → Reads p_more (spelling.more keep (and_argument p e m) l) (and_argument p e m) Closes
-and_argument_reads p e m l r s = record { need = suc (max r.need s.need); reads = go }
-  where
-    go : (n : ℕ) (us : List Token) → suc (max r.need s.need) ≤ n → Closes us → p_more n (spelling.more keep (and_argument p e m) l ++ us) ≡ took (and_argument p e m) us
-    go zero us h f = absurd (omega arith)
-    go (suc k) us h f =
-        let a = r.reads k (spelling.more keep m l ++ us) (omega arith) (after_more m l us f) in
-        let b = s.reads k us (omega arith) f in
-        rw (append_assoc, a, b) refl
+after_more no_more l us c = rw (eqb-true (front us) 32 c) (assumption refl)
+after_more (and_argument p e m) l us c = assumption refl
 
 mutual
   pub reads_e : (e : Expr) (l : ℕ) → Reads p_e (spelling.expr keep e l) e AfterExpr
-  reads_e (positive t ts) l = positive_reads t ts l (reads_t t l l) (reads_ts ts l)
-  reads_e (negative p t ts) l = negative_reads p t ts l (reads_t t l 0) (reads_ts ts l)
+  reads_e (positive t ts) l =
+      let r = reads_t t l l in
+      let s = reads_ts ts l in
+      deeper (max r.need s.need) (λ m us h f.
+      let a = r.reads m (spelling.terms keep ts l ++ us) (omega arith) (after_terms ts l us f) in
+      let b = s.reads m us (omega arith) f in
+      let c = (starts_term t l l (spelling.terms keep ts l ++ us)).1 in
+      rw (append_assoc, c, a, b) refl)
+  reads_e (negative p t ts) l =
+      let r = reads_t t l 0 in
+      let s = reads_ts ts l in
+      deeper (max r.need s.need) (λ m us h f.
+      let a = r.reads m (spelling.terms keep ts l ++ us) (omega arith) (after_terms ts l us f) in
+      let b = s.reads m us (omega arith) f in
+      rw (append_assoc, a, b) refl)
 
   pub reads_ts : (ts : Terms) (l : ℕ) → Reads p_ts (spelling.terms keep ts l) ts AfterExpr
-  reads_ts no_terms l = no_terms_reads l
-  reads_ts (and_term o p t ts) l = and_term_reads o p t ts l (reads_t t l 0) (reads_ts ts l)
+  reads_ts no_terms l = deeper 0 (λ m us h f. rw (f.1, f.2) refl)
+  reads_ts (and_term o p t ts) l =
+      let r = reads_t t l 0 in
+      let s = reads_ts ts l in
+      deeper (max r.need s.need) (λ m us h f.
+      let a = r.reads m (spelling.terms keep ts l ++ us) (omega arith) (after_terms ts l us f) in
+      let b = s.reads m us (omega arith) f in
+      elim o as (λ o. p_ts (suc m) (spelling.terms keep (and_term o p t ts) l ++ us) ≡ took (and_term o p t ts) us)
+      [ plus ↦ rw (append_assoc, a, b) refl | minus ↦ rw (append_assoc, a, b) refl ])
 
   pub reads_t : (t : Term) (l o : ℕ) → Reads p_t (spelling.term keep t l o) t AfterTerm
-  reads_t (product f fs) l o = product_reads f fs l o (reads_f f l o) (reads_fs fs l)
+  reads_t (product g fs) l o =
+      let r = reads_f g l o in
+      let s = reads_fs fs l in
+      deeper (max r.need s.need) (λ m us h f.
+      let a = r.reads m (spelling.factors keep fs l ++ us) (omega arith) (after_factors fs l us f) in
+      let b = s.reads m us (omega arith) f in
+      rw (append_assoc, a, b) refl)
 
   pub reads_fs : (fs : Factors) (l : ℕ) → Reads p_fs (spelling.factors keep fs l) fs AfterTerm
-  reads_fs no_factors l = no_factors_reads l
-  reads_fs (and_factor o p f fs) l = and_factor_reads o p f fs l (reads_f f l 0) (reads_fs fs l)
+  reads_fs no_factors l = deeper 0 (λ m us h f. rw (f.1, f.2, f.3) refl)
+  reads_fs (and_factor o p g fs) l =
+      let r = reads_f g l 0 in
+      let s = reads_fs fs l in
+      deeper (max r.need s.need) (λ m us h f.
+      let a = r.reads m (spelling.factors keep fs l ++ us) (omega arith) (after_factors fs l us f) in
+      let b = s.reads m us (omega arith) f in
+      elim o as (λ o. p_fs (suc m) (spelling.factors keep (and_factor o p g fs) l ++ us) ≡ took (and_factor o p g fs) us)
+      [ times ↦ rw (append_assoc, a, b) refl | over ↦ rw (append_assoc, a, b) refl | percent ↦ rw (append_assoc, a, b) refl ])
 
   pub reads_f : (f : Factor) (l o : ℕ) → Reads p_f (spelling.factor keep f l o) f AfterFactor
-  reads_f (value d) l o = value_reads d l o (reads_d d l o)
-  reads_f (call d p xs q) l o = call_reads d p xs q l o (reads_d d l o) (reads_as xs l)
-  reads_f (literal x) l o = literal_reads x l o
-  reads_f (new p x q e r) l o = new_reads p x q e r l o (reads_e e (suc l))
-  reads_f (parenthesis p e q) l o = parenthesis_reads p e q l o (reads_e e (suc l))
+  reads_f (value d) l o =
+      let r = reads_d d l o in
+      deeper r.need (λ m us h f.
+      let a = r.reads m us (omega arith) f.1 in
+      let c = front_designator d l o us in
+      rw (c, a, f.0) refl)
+  reads_f (call d p xs q) l o =
+      let r = reads_d d l o in
+      let s = reads_as xs l in
+      deeper (max r.need s.need) (λ m us h f.
+      let rest = spelling.sign keep 0 sym.OpenParenthesis p ∷ (spelling.argument_list keep xs l ++ spelling.sign keep 0 sym.CloseParenthesis q ∷ us) in
+      let e : spelling.factor keep (call d p xs q) l o ++ us ≡ spelling.designator keep d l o ++ rest = simp append_assoc in
+      let a = r.reads m rest (omega arith) refl in
+      let b = s.reads m (spelling.sign keep 0 sym.CloseParenthesis q ∷ us) (omega arith) refl in
+      let c = front_designator d l o rest in
+      rw (e, c, a, b) refl)
+  reads_f (literal (integer k p)) l o = deeper 0 (λ m us h f. refl)
+  reads_f (literal (letter k p)) l o = deeper 0 (λ m us h f. refl)
+  reads_f (new p x q e r) l o =
+      let s = reads_e e (suc l) in
+      deeper s.need (λ m us h f.
+      let a = s.reads m (spelling.sign keep 0 sym.CloseBracket r ∷ us) (omega arith) (assumption refl) in
+      rw (append_assoc, a) refl)
+  reads_f (parenthesis p e q) l o =
+      let s = reads_e e (suc l) in
+      deeper s.need (λ m us h f.
+      let a = s.reads m (spelling.sign keep 0 sym.CloseParenthesis q ∷ us) (omega arith) (assumption refl) in
+      rw (append_assoc, a) refl)
 
   pub reads_d : (d : Designator) (l o : ℕ) → Reads p_d (spelling.designator keep d l o) d AfterName
-  reads_d (whole x) l o = whole_reads x l o
-  reads_d (element x p e q) l o = element_reads x p e q l o (reads_e e (suc l))
+  reads_d (whole x) l o = deeper 0 (λ m us h f. rw f refl)
+  reads_d (element x p e q) l o =
+      let s = reads_e e (suc l) in
+      deeper s.need (λ m us h f.
+      let a = s.reads m (spelling.sign keep 0 sym.CloseBracket q ∷ us) (omega arith) (assumption refl) in
+      rw (append_assoc, a) refl)
 
   pub reads_as : (xs : Arguments) (l : ℕ) → Reads p_as (spelling.argument_list keep xs l) xs Closes
-  reads_as no_arguments l = no_arguments_reads l
-  reads_as (arguments e m) l = arguments_reads e m l (reads_e e (suc l)) (reads_more m l)
+  reads_as no_arguments l = deeper 0 (λ m us h f. rw f refl)
+  reads_as (arguments e m) l =
+      let r = reads_e e (suc l) in
+      let s = reads_more m l in
+      deeper (max r.need s.need) (λ k us h f.
+      let a = r.reads k (spelling.more keep m l ++ us) (omega arith) (after_more m l us f) in
+      let b = s.reads k us (omega arith) f in
+      let c = not_closing (spelling.expr keep e (suc l) ++ (spelling.more keep m l ++ us)) (starts_expr e (suc l) (spelling.more keep m l ++ us)) in
+      rw (append_assoc, c, a, b) refl)
 
   pub reads_more : (m : More) (l : ℕ) → Reads p_more (spelling.more keep m l) m Closes
-  reads_more no_more l = no_more_reads l
-  reads_more (and_argument p e m) l = and_argument_reads p e m l (reads_e e (suc l)) (reads_more m l)
+  reads_more no_more l = deeper 0 (λ k us h f. rw (eqb-true (front us) 32 f) refl)
+  reads_more (and_argument p e m) l =
+      let r = reads_e e (suc l) in
+      let s = reads_more m l in
+      deeper (max r.need s.need) (λ k us h f.
+      let a = r.reads k (spelling.more keep m l ++ us) (omega arith) (after_more m l us f) in
+      let b = s.reads k us (omega arith) f in
+      rw (append_assoc, a, b) refl)

@@ -44,13 +44,16 @@ leading_run test (b ∷ bs) = by (test b) refl (leading_run test bs)
     by true e r = subst (Run test (b ∷ bs)) (let s : suc (prefix_len test bs) ≡ 1 + prefix_len test bs = omega arith in s) (run_more test b bs _ e r)
     by false e r = run_none test b bs e
 
+-- no lexeme, where every lexeme is of a class that has none
+none_of : (c d : Class) (w : List ℕ) → (is d w ≡ true → d ≡ c) → (is c w ≡ true → ⊥) → is d w ≡ false
+none_of c d w only none = false_from_ne_true _ (λ h. none (rw (only h) at h))
+
 -- where the first byte decides the class, a longer lexeme is one of that class
 decided :
     (b : ℕ) (bs : List ℕ) (c : Class) (k : ℕ) → by_first b ≡ c → not_slash c ≡ true →
     ((m : ℕ) → k < suc m → m ≤ length bs → is c (b ∷ take m bs) ≡ true → ⊥) → (n : ℕ) (d : Class) → k < n → n ≤ length (b ∷ bs) → is d (take n (b ∷ bs)) ≡ false
 decided b bs c k e s no_longer zero d l g = absurd (omega arith)
-decided b bs c k e s no_longer (suc m) d l g =
-    false_from_ne_true _ (λ h. no_longer m l (omega arith) (subst (λ (x : Class). is x (b ∷ take m bs) ≡ true) (sym (class_is d _ h) ∙ class_first b _ c e s) h))
+decided b bs c k e s no_longer (suc m) d l g = none_of c d _ (λ h. sym (class_is d _ h) ∙ class_first b _ c e s) (no_longer m l (omega arith))
 
 pub name_longest : (b : ℕ) (bs : List ℕ) (n : ℕ) → is_letter b ≡ true → Run is_name_part bs n → Longest (b ∷ bs) (lexeme namelike (suc n))
 name_longest b bs n h r = record {
@@ -86,7 +89,7 @@ comment_longest bs n r = record { within = omega (arith, r.within); lexeme = r.p
     longest (suc (suc m)) d l g =
         false_from_ne_true _ (λ h.
         let o : d ≡ operator = sym (class_is d (47 ∷ 47 ∷ take m bs) h) ∙ cond-false (list_all in_line (take m bs)) comment operator (r.stops m (omega arith) (omega arith)) in
-        let short : length (47 ∷ 47 ∷ take m bs) ≤ 2 = operators_short (47 ∷ 47 ∷ take m bs) (subst (λ (x : Class). is x (47 ∷ 47 ∷ take m bs) ≡ true) o h) in
+        let short : length (47 ∷ 47 ∷ take m bs) ≤ 2 = operators_short (47 ∷ 47 ∷ take m bs) (rw o at h) in
         omega (arith, length-take-le m bs (omega arith)))
 
 -- where an operator can begin and no comment does, every lexeme is an operator
@@ -104,19 +107,19 @@ pub operator_longest :
 operator_longest b bs k e s w h two some = record {
   within = w;
   lexeme = h;
-  longest = λ n d l g. false_from_ne_true _ (λ i. longer n l g (subst (λ (x : Class). is x (take n (b ∷ bs)) ≡ true) (only_operators b bs n d e s i) i));
+  longest = λ n d l g. none_of operator d _ (only_operators b bs n d e s) (longer n l g);
 }
   where
     longer : (n : ℕ) → k < n → n ≤ length (b ∷ bs) → is operator (take n (b ∷ bs)) ≡ true → ⊥
     longer n l g i =
         let short : length (take n (b ∷ bs)) ≤ 2 = operators_short (take n (b ∷ bs)) i in
         let n-two : n ≡ 2 = omega (arith, length-take-le n (b ∷ bs) g) in
-        both_ways _ (two (omega arith) (omega arith)) (subst (λ (m : ℕ). is operator (take m (b ∷ bs)) ≡ true) n-two i)
+        both_ways _ (two (omega arith) (omega arith)) (rw n-two at i)
 
 pub operator_none :
     (b : ℕ) (bs : List ℕ) → by_first b ≡ operator → is comment (take 2 (b ∷ bs)) ≡ false → is operator (b ∷ []) ≡ false →
     (2 ≤ length (b ∷ bs) → is operator (take 2 (b ∷ bs)) ≡ false) → NoLexeme (b ∷ bs)
-operator_none b bs e s one two n d g = false_from_ne_true _ (λ i. none n g (subst (λ (x : Class). is x (take n (b ∷ bs)) ≡ true) (only_operators b bs n d e s i) i))
+operator_none b bs e s one two n d g = none_of operator d _ (only_operators b bs n d e s) (none n g)
   where
     none : (n : ℕ) → n ≤ length (b ∷ bs) → is operator (take n (b ∷ bs)) ≡ true → ⊥
     none zero g i = both_ways _ refl i
@@ -130,18 +133,22 @@ only_constants : (b : ℕ) (bs : List ℕ) (n : ℕ) (d : Class) → eqb b 39 �
 only_constants b bs zero d e h = absurd (both_ways _ (none_empty d) h)
 only_constants b bs (suc n) d e h = sym (class_is d (b ∷ take n bs) h) ∙ class_first b (take n bs) quotation (first_quote b e) refl
 
+three_or_four : (w : List ℕ) (n : ℕ) → n ≤ length w → is quotation (take n w) ≡ true → (n ≡ 3) ⊎ (n ≡ 4)
+three_or_four w n g h = subst (λ (m : ℕ). (m ≡ 3) ⊎ (m ≡ 4)) (length-take-le n w g) (constants_short _ h)
+
 -- a constant of three bytes holds no backslash
 not_both : (a x c d : ℕ) → is quotation (a ∷ x ∷ c ∷ []) ≡ true → is quotation (a ∷ x ∷ c ∷ d ∷ []) ≡ true → ⊥
 not_both a x c d h i =
     let backslash : x ≡ 92 = eqb-true x 92 (and_parts _ _ (and_parts _ _ (quoted_some _ _ i)).0).1 in
-    both_ways _ refl (subst (λ (y : ℕ). is_some (plain y) ≡ true) backslash (quoted_value _ _ h))
+    let stands : is_some (plain x) ≡ true = quoted_value _ _ h in
+    both_ways _ refl (rw backslash at stands)
 
 pub constant_longest :
     (b : ℕ) (bs : List ℕ) (k : ℕ) → eqb b 39 ≡ true → k ≤ length (b ∷ bs) → is quotation (take k (b ∷ bs)) ≡ true → Longest (b ∷ bs) (lexeme quotation k)
 constant_longest b bs k e w h = record {
   within = w;
   lexeme = h;
-  longest = λ n d l g. false_from_ne_true _ (λ i. longer n l g (subst (λ (x : Class). is x (take n (b ∷ bs)) ≡ true) (only_constants b bs n d e i) i));
+  longest = λ n d l g. none_of quotation d _ (only_constants b bs n d e) (longer n l g);
 }
   where
     three_four : (cs : List ℕ) → 4 ≤ length cs → is quotation (take 3 cs) ≡ true → is quotation (take 4 cs) ≡ true → ⊥
@@ -153,20 +160,20 @@ constant_longest b bs k e w h = record {
 
     longer : (n : ℕ) → k < n → n ≤ length (b ∷ bs) → is quotation (take n (b ∷ bs)) ≡ true → ⊥
     longer n l g i =
-        let k-is : (k ≡ 3) ⊎ (k ≡ 4) = subst (λ (m : ℕ). (m ≡ 3) ⊎ (m ≡ 4)) (length-take-le k (b ∷ bs) w) (constants_short _ h) in
-        let n-is : (n ≡ 3) ⊎ (n ≡ 4) = subst (λ (m : ℕ). (m ≡ 3) ⊎ (m ≡ 4)) (length-take-le n (b ∷ bs) g) (constants_short _ i) in
+        let k-is = three_or_four (b ∷ bs) k w h in
+        let n-is = three_or_four (b ∷ bs) n g i in
         let k-three : k ≡ 3 = omega arith in
         let n-four : n ≡ 4 = omega arith in
-        three_four (b ∷ bs) (omega arith) (subst (λ (m : ℕ). is quotation (take m (b ∷ bs)) ≡ true) k-three h) (subst (λ (m : ℕ). is quotation (take m (b ∷ bs)) ≡ true) n-four i)
+        three_four (b ∷ bs) (omega arith) (rw k-three at h) (rw n-four at i)
 
 pub constant_none :
     (b : ℕ) (bs : List ℕ) → eqb b 39 ≡ true → (3 ≤ length (b ∷ bs) → is quotation (take 3 (b ∷ bs)) ≡ false) → (4 ≤ length (b ∷ bs) → is quotation (take 4 (b ∷ bs)) ≡ false) →
     NoLexeme (b ∷ bs)
-constant_none b bs e three four n d g = false_from_ne_true _ (λ i. none n g (subst (λ (x : Class). is x (take n (b ∷ bs)) ≡ true) (only_constants b bs n d e i) i))
+constant_none b bs e three four n d g = none_of quotation d _ (only_constants b bs n d e) (none n g)
   where
     none : (n : ℕ) → n ≤ length (b ∷ bs) → is quotation (take n (b ∷ bs)) ≡ true → ⊥
     none n g i =
         ⊎_elim
-        (λ (m : n ≡ 3). both_ways _ (three (omega arith)) (subst (λ (m : ℕ). is quotation (take m (b ∷ bs)) ≡ true) m i))
-        (λ (m : n ≡ 4). both_ways _ (four (omega arith)) (subst (λ (m : ℕ). is quotation (take m (b ∷ bs)) ≡ true) m i))
-        (subst (λ (m : ℕ). (m ≡ 3) ⊎ (m ≡ 4)) (length-take-le n (b ∷ bs) g) (constants_short _ i))
+        (λ (m : n ≡ 3). both_ways _ (three (omega arith)) (rw m at i))
+        (λ (m : n ≡ 4). both_ways _ (four (omega arith)) (rw m at i))
+        (three_or_four (b ∷ bs) n g i)

@@ -1,13 +1,13 @@
 -- No text has two answers of the first stage.
-use Rattle.std.proofs.Common.{◌≡◌, ℕ, ◌<◌, ◌≤◌, true, List, [], ◌∷◌, ◌++◌, length, take, drop, Some, Ok, Err, Result, sym, refl, ap, ◌∙◌, subst, ⊎_elim, arith}
+use Rattle.std.proofs.Common.{◌≡◌, ℕ, ◌<◌, ◌≤◌, List, [], ◌∷◌, ◌++◌, length, take, drop, Some, Ok, Err, Result, sym, refl, ap, ◌∙◌, subst, ⊎_elim, arith}
 use Rattle.std.proofs.lemmas.List.{append_cancel_right}
 use Rattle.std.proofs.lemmas.Bool.{both_ways, cases_order}
 use Rattle.outcomes.specs.declared.Fault.{Fault}
 use Rattle.outcomes.specs.declared.Position.{Position}
 use Rattle.outcomes.specs.declared.Refusal.TheVariants.{NoToken, NumberTooLarge}
 use Rattle.syntax.specs.Tokens.{number, Token, start, behind}
-use Rattle.syntax.specs.Lexemes.{Class, numeric, is, token_of, Lexeme, Longest, NoLexeme}
-use Rattle.syntax.specs.Scanning.{Fits, Cut, tokens, Cuts, CutUpTo, RefusedByScan, long, no_token, large, ScannedAs}
+use Rattle.syntax.specs.Lexemes.{Class, numeric, token_of, Lexeme, Longest, NoLexeme}
+use Rattle.syntax.specs.Scanning.{Fits, Cut, Cuts, CutUpTo, RefusedByScan, long, no_token, large, ScannedAs}
 use Rattle.syntax.proofs.Classes.{empty_none, one_class}
 use Rattle.syntax.proofs.Longest.{lexeme}
 
@@ -22,7 +22,7 @@ same_size bs l m h i =
 pub one_longest : (bs : List ℕ) (l m : Lexeme) → Longest bs l → Longest bs m → l ≡ m
 one_longest bs l m h i =
     let size : l.size ≡ m.size = same_size bs l m h i in
-    let class : l.class ≡ m.class = one_class l.class m.class (take m.size bs) (subst (λ (n : ℕ). is l.class (take n bs) ≡ true) size h.lexeme) i.lexeme in
+    let class : l.class ≡ m.class = one_class l.class m.class (take m.size bs) (rw size at h.lexeme) i.lexeme in
     ap (λ (c : Class). lexeme c l.size) class ∙ ap (lexeme m.class) size
 
 pub no_longest : (bs : List ℕ) (l : Lexeme) → NoLexeme bs → Longest bs l → ⊥
@@ -38,13 +38,13 @@ record SameCut (ls ms : List Lexeme) (q r : List ℕ) : Type 0 where
   rest : q ≡ r
 
 one_cut : (ls ms : List Lexeme) (text q r : List ℕ) → Cut ls text q → Cut ms text r → Stops q → Stops r → SameCut ls ms q r
-one_cut [] [] text q r c d s t = record { lexemes = refl; rest = sym c ∙ d }
+one_cut [] [] text q r c d s t = record { lexemes = refl; rest = cc }
 one_cut [] (m ∷ ms) text q r c d s t = absurd (subst Stops (sym c) s m d.0 d.1)
 one_cut (l ∷ ls) [] text q r c d s t = absurd (subst Stops (sym d) t l c.0 c.1)
 one_cut (l ∷ ls) (m ∷ ms) text q r c d s t =
     let same : l ≡ m = one_longest text l m c.0 d.0 in
-    let more : SameCut ls ms q r = one_cut ls ms (drop l.size text) q r c.2 (subst (λ (k : Lexeme). Cut ms (drop k.size text) r) (sym same) d.2) s t in
-    record { lexemes = ap (λ (k : Lexeme). k ∷ ls) same ∙ ap (λ (ks : List Lexeme). m ∷ ks) more.lexemes; rest = more.rest }
+    let more : SameCut ls ms q r = one_cut ls ms (drop l.size text) q r c.2 (rw same d.2) s t in
+    record { lexemes = cc; rest = more.rest }
 
 end_stops : Stops []
 end_stops l h f = no_longest [] l empty_none h
@@ -55,50 +55,48 @@ none_stops rest none l h f = no_longest rest l none h
 large_stops : (rest : List ℕ) (n value : ℕ) → Longest rest (lexeme numeric n) → token_of numeric (take n rest) ≡ Some (number value) → 2147483647 < value → Stops rest
 large_stops rest n value h e over l i f =
     let same : l ≡ lexeme numeric n = one_longest rest l (lexeme numeric n) i h in
-    let fits : value ≤ 2147483647 = subst Fits e (subst (λ (k : Lexeme). Fits (token_of k.class (take k.size rest))) same f) in
+    let fits : value ≤ 2147483647 = subst Fits e (rw same at f) in
     omega arith
-
-one_place : (text : List ℕ) (p q : Position) (r s : List ℕ) → CutUpTo text p r → CutUpTo text q s → r ≡ s → p ≡ q
-one_place text p q r s c d e =
-    let fronts : c.front ≡ d.front = append_cancel_right c.front d.front s (ap (λ (t : List ℕ). c.front ++ t) (sym e) ∙ sym c.parts ∙ d.parts) in
-    c.place ∙ ap (behind start) fronts ∙ sym d.place
 
 same_rest : (text : List ℕ) (p q : Position) (r s : List ℕ) → CutUpTo text p r → CutUpTo text q s → Stops r → Stops s → r ≡ s
 same_rest text p q r s c d h i = (one_cut c.lexemes d.lexemes text r s c.cut d.cut h i).rest
 
+-- a text that is cut stops at one place
+one_place : (text : List ℕ) (p q : Position) (r s : List ℕ) → CutUpTo text p r → CutUpTo text q s → Stops r → Stops s → p ≡ q
+one_place text p q r s c d h i =
+    let e = same_rest text p q r s c d h i in
+    let fronts : c.front ≡ d.front = append_cancel_right c.front d.front s (ap (λ (t : List ℕ). c.front ++ t) (sym e) ∙ sym c.parts ∙ d.parts) in
+    c.place ∙ ap (behind start) fronts ∙ sym d.place
+
 one_fault : (text : List ℕ) (f g : Fault) → RefusedByScan text f → RefusedByScan text g → f ≡ g
 one_fault text f g (long h) (long i) = refl
-one_fault text f g (long h) (no_token p rest c some n) = absurd (omega (arith, c.short))
-one_fault text f g (long h) (large p rest n value c l e o) = absurd (omega (arith, c.short))
-one_fault text f g (no_token p rest c some n) (long h) = absurd (omega (arith, c.short))
+one_fault text f g (long h) (no_token p rest c some n) = absurd (omega arith)
+one_fault text f g (long h) (large p rest n value c l e o) = absurd (omega arith)
+one_fault text f g (no_token p rest c some n) (long h) = absurd (omega arith)
 one_fault text f g (no_token p rest c some n) (no_token q more d any m) =
-    ap (λ (a : Position). record { refusal = NoToken; position = a }) (one_place text p q rest more c d (same_rest text p q rest more c d (none_stops rest n) (none_stops more m)))
+    ap (λ (a : Position). record { refusal = NoToken; position = a }) (one_place text p q rest more c d (none_stops rest n) (none_stops more m))
 one_fault text f g (no_token p rest c some n) (large q more k value d l e o) =
     absurd (no_longest more (lexeme numeric k) (subst NoLexeme (same_rest text p q rest more c d (none_stops rest n) (large_stops more k value l e o)) n) l)
-one_fault text f g (large p rest n value c l e o) (long h) = absurd (omega (arith, c.short))
+one_fault text f g (large p rest n value c l e o) (long h) = absurd (omega arith)
 one_fault text f g (large p rest n value c l e o) (no_token q more d any m) =
     absurd (no_longest rest (lexeme numeric n) (subst NoLexeme (sym (same_rest text p q rest more c d (large_stops rest n value l e o) (none_stops more m))) m) l)
 one_fault text f g (large p rest n value c l e o) (large q more k worth d m i u) =
-    ap (λ (a : Position). record { refusal = NumberTooLarge; position = a })
-    (one_place text p q rest more c d (same_rest text p q rest more c d (large_stops rest n value l e o) (large_stops more k worth m i u)))
+    ap (λ (a : Position). record { refusal = NumberTooLarge; position = a }) (one_place text p q rest more c d (large_stops rest n value l e o) (large_stops more k worth m i u))
 
 -- a text is cut into one list of tokens
 pub one_cutting : (text : List ℕ) (ts us : List Token) → Cuts text ts → Cuts text us → ts ≡ us
 one_cutting text ts us c d =
     let same = one_cut c.lexemes d.lexemes text [] [] c.cut d.cut end_stops end_stops in
-    c.are ∙ ap (λ (ls : List Lexeme). tokens ls start text) same.lexemes ∙ sym d.are
-
-longest_some : (bs : List ℕ) (l : Lexeme) → Longest bs l → bs ≡ [] → ⊥
-longest_some bs l h e = no_longest [] l empty_none (subst (λ (b : List ℕ). Longest b l) e h)
+    cc
 
 cut_or_refused : (text : List ℕ) (ts : List Token) (f : Fault) → Cuts text ts → RefusedByScan text f → ⊥
-cut_or_refused text ts f c (long h) = omega (arith, c.short)
+cut_or_refused text ts f c (long h) = omega arith
 cut_or_refused text ts f c (no_token p rest d some n) =
     let none : [] ≡ rest = (one_cut c.lexemes d.lexemes text [] rest c.cut d.cut end_stops (none_stops rest n)).rest in
     omega (arith, ap length none)
 cut_or_refused text ts f c (large p rest n value d l e o) =
     let none : [] ≡ rest = (one_cut c.lexemes d.lexemes text [] rest c.cut d.cut end_stops (large_stops rest n value l e o)).rest in
-    longest_some rest (lexeme numeric n) l (sym none)
+    no_longest rest (lexeme numeric n) (subst NoLexeme none empty_none) l
 
 -- scanning has one answer
 pub one_answer : (text : List ℕ) (r s : Result (List Token) Fault) → ScannedAs text r → ScannedAs text s → r ≡ s

@@ -4,7 +4,7 @@ use Rattle.words.specs.declared.arithmetic.Relation.{Relation}
 use Rattle.words.specs.declared.arithmetic.Relation.TheVariants as relation
 use Rattle.syntax.specs.declared.symbol.Symbol.{Symbol}
 use Rattle.syntax.specs.declared.symbol.Symbol.TheVariants as sym
-use Rattle.syntax.specs.Tokens.{TokenKind, name, number, character, symbol, Token}
+use Rattle.syntax.specs.Tokens.{TokenKind, name, number, character, Token}
 use Rattle.syntax.specs.Trees.{At, Name, Addop, plus, minus, Mulop, times, over, percent, Literal, integer, letter, Expr, positive, negative, Terms, no_terms, and_term, Term, product, Factors, no_factors, and_factor, Factor, value, call, literal, new, parenthesis, Designator, whole, element, Arguments, no_arguments, arguments, More, no_more, and_argument, Comparison, Conjunction, single, both, Condition, only, either, Statement, assign, invoke, step, when, choose, while, break, return, give, read, print, print_wide, block, empty, Statements, none, and_then, Declared, scalar, array, Declareds, last, and, Variables, Declaration, constant, variables, Parameter, Parameters, no_parameters, parameters, ResultType, void, typed, Method, Program}
 use Rattle.syntax.proofs.Fronts.{a_name, front, is_front, rest, place}
 
@@ -34,29 +34,24 @@ if_name p q ts = cond (eqb (front ts) a_name) (p ts) (q ts)
 
 abbrev pub name_of : TokenKind → List Token → Parse Name
 name_of (name w) ts us = took (record { text = w; position = place us }) ts
-name_of (number n) ts us = failed
-name_of (character c) ts us = failed
-name_of (symbol s) ts us = failed
+name_of k ts us = failed
 
 abbrev pub p_name : Parse Name
 p_name [] = failed
 p_name (t ∷ ts) = name_of t.kind ts (t ∷ ts)
 
 abbrev pub number_of : TokenKind → List Token → Parse (ℕ × At)
-number_of (name w) ts us = failed
 number_of (number n) ts us = took (n, place us) ts
-number_of (character c) ts us = failed
-number_of (symbol s) ts us = failed
+number_of k ts us = failed
 
 abbrev pub p_number : Parse (ℕ × At)
 p_number [] = failed
 p_number (t ∷ ts) = number_of t.kind ts (t ∷ ts)
 
 abbrev pub literal_of : TokenKind → List Token → Parse Literal
-literal_of (name w) ts us = failed
 literal_of (number n) ts us = took (integer n (place us)) ts
 literal_of (character c) ts us = took (letter c (place us)) ts
-literal_of (symbol s) ts us = failed
+literal_of k ts us = failed
 
 abbrev pub p_literal : Parse Literal
 p_literal [] = failed

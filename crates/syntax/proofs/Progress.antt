@@ -1,5 +1,5 @@
 -- A text that is cut lexeme by lexeme, from its front.
-use Rattle.std.proofs.Common.{◌≡◌, ℕ, zero, suc, ◌+◌, ◌<◌, ◌≤◌, true, cond, eqb, List, [], ◌∷◌, ◌++◌, length, take, drop, Some, None, Option, sym, refl, ap, ◌∙◌, subst, arith}
+use Rattle.std.proofs.Common.{◌≡◌, ℕ, zero, suc, ◌+◌, ◌<◌, ◌≤◌, true, cond, eqb, List, [], ◌∷◌, ◌++◌, length, take, drop, Some, None, Option, refl, subst, arith}
 use Rattle.std.proofs.lemmas.List.{append-nil, append_assoc, nil_from_length, take-append-drop}
 use Rattle.std.proofs.lemmas.Bool.{both_ways}
 use Rattle.outcomes.specs.declared.Position.{Position}
@@ -17,17 +17,17 @@ taken_parts : (ls : List Lexeme) (text rest : List ℕ) → Cut ls text rest →
 unfolding taken
 taken_parts [] text rest c = c
 taken_parts (l ∷ ls) text rest c =
-    sym (take-append-drop l.size text) ∙ ap (λ (r : List ℕ). take l.size text ++ r) (taken_parts ls (drop l.size text) rest c.2) ∙ sym (append_assoc (take l.size text) _ rest)
+    cc (take-append-drop l.size text, taken_parts ls (drop l.size text) rest c.2, append_assoc (take l.size text) (taken ls (drop l.size text)) rest)
 
 taken_more : (ls : List Lexeme) (text rest : List ℕ) (l : Lexeme) → Cut ls text rest → taken (ls ++ l ∷ []) text ≡ taken ls text ++ take l.size rest
 unfolding taken
-taken_more [] text rest l c = append-nil (take l.size text) ∙ ap (take l.size) c
-taken_more (m ∷ ls) text rest l c = ap (λ (r : List ℕ). take m.size text ++ r) (taken_more ls (drop m.size text) rest l c.2) ∙ sym (append_assoc (take m.size text) _ _)
+taken_more [] text rest l c = cc (append-nil (take l.size text))
+taken_more (m ∷ ls) text rest l c = cc (taken_more ls (drop m.size text) rest l c.2, append_assoc (take m.size text) (taken ls (drop m.size text)) (take l.size rest))
 
 cut_more :
     (ls : List Lexeme) (text rest : List ℕ) (l : Lexeme) → Cut ls text rest → Longest rest l → Fits (token_of l.class (take l.size rest)) → Cut (ls ++ l ∷ []) text (drop l.size rest)
 cut_more [] text rest l c h f =
-    (subst (λ (r : List ℕ). Longest r l) (sym c) h, subst (λ (r : List ℕ). Fits (token_of l.class (take l.size r))) (sym c) f, ap (drop l.size) c)
+    (rw c h, rw c f, cc)
 cut_more (m ∷ ls) text rest l c h f = (c.0, c.1, cut_more ls (drop m.size text) rest l c.2 h f)
 
 pub behind_append : (p : Position) (bs cs : List ℕ) → behind p (bs ++ cs) ≡ behind (behind p bs) cs
@@ -42,14 +42,12 @@ tokens_more :
     (ls : List Lexeme) (p : Position) (text rest : List ℕ) (l : Lexeme) → Cut ls text rest →
     tokens (ls ++ l ∷ []) p text ≡ tokens ls p text ++ before (token_of l.class (take l.size rest)) (behind p (taken ls text)) []
 unfolding taken
-tokens_more [] p text rest l c = ap (λ (r : List ℕ). before (token_of l.class (take l.size r)) p []) c
+tokens_more [] p text rest l c = cc
 tokens_more (m ∷ ls) p text rest l c =
     let w = take m.size text in
     let k = token_of m.class w in
     let more = drop m.size text in
-    ap (before k p) (tokens_more ls (behind p w) more rest l c.2) ∙
-    before_append k p (tokens ls (behind p w) more) _ ∙
-    ap (λ (q : Position). before k p (tokens ls (behind p w) more) ++ before (token_of l.class (take l.size rest)) q []) (sym (behind_append p w (taken ls more)))
+    cc (tokens_more ls (behind p w) more rest l c.2, before_append k p (tokens ls (behind p w) more) (before (token_of l.class (take l.size rest)) (behind (behind p w) (taken ls more)) []), behind_append p w (taken ls more))
 
 -- the text is cut up to a place, and ts are the tokens before it
 pub record Progress (text : List ℕ) (ts : List Token) (p : Position) (rest : List ℕ) : Type 0 where
@@ -71,12 +69,8 @@ progress_more text ts p rest l g h f =
     record {
       lexemes = g.lexemes ++ l ∷ [];
       cut = cut_more g.lexemes text rest l g.cut h f;
-      are =
-          ap (λ (us : List Token). us ++ token p) g.are ∙ ap (λ (q : Position). tokens g.lexemes start text ++ token q) g.place ∙
-          sym (tokens_more g.lexemes start text rest l g.cut);
-      place =
-          ap (λ (q : Position). behind q (take l.size rest)) g.place ∙ sym (behind_append start (taken g.lexemes text) (take l.size rest)) ∙
-          ap (behind start) (sym (taken_more g.lexemes text rest l g.cut));
+      are = cc (tokens_more g.lexemes start text rest l g.cut);
+      place = cc (behind_append start (taken g.lexemes text) (take l.size rest), taken_more g.lexemes text rest l g.cut);
     }
 
 -- the end of the text is reached
@@ -87,7 +81,7 @@ progress_cuts text ts p rest short g e =
 pub progress_ends : (text : List ℕ) (ts : List Token) (p : Position) (rest : List ℕ) → Progress text ts p rest → length rest ≤ 0 → p ≡ behind start text
 progress_ends text ts p rest g e =
     let none : rest ≡ [] = nil_from_length rest (omega arith) in
-    g.place ∙ ap (behind start) (sym (taken_parts g.lexemes text rest g.cut ∙ ap (λ (r : List ℕ). taken g.lexemes text ++ r) none ∙ append-nil _))
+    cc (taken_parts g.lexemes text rest g.cut, append-nil (taken g.lexemes text))
 
 -- the text is cut up to the place reached
 pub up_to : (text : List ℕ) (ts : List Token) (p : Position) (rest : List ℕ) → length text ≤ 65536 → Progress text ts p rest → CutUpTo text p rest

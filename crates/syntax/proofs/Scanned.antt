@@ -2,11 +2,11 @@
 use Rattle.std.proofs.Common.{◌≡◌, ℕ, zero, suc, ◌<◌, ◌≤◌, Bool, true, false, leb, List, [], ◌∷◌, ◌++◌, length, take, drop, Some, None, Ok, Err, Option, Result, sym, refl, ap, subst, arith}
 use Rattle.std.specs.Result.{result_ok}
 use Rattle.std.proofs.lemmas.List.{append_assoc, append-nil, length-drop}
-use Rattle.std.proofs.lemmas.Bool.{both_ways, leb-true, leb-false}
+use Rattle.std.proofs.lemmas.Bool.{leb-true, leb-false}
 use Rattle.outcomes.specs.declared.Fault.{Fault}
 use Rattle.outcomes.specs.declared.Position.{Position}
 use Rattle.outcomes.specs.declared.Refusal.TheVariants.{TextTooLong, NoToken, NumberTooLarge}
-use Rattle.syntax.specs.Tokens.{TokenKind, name, number, character, symbol, Token, start, behind}
+use Rattle.syntax.specs.Tokens.{TokenKind, number, Token, start, behind}
 use Rattle.syntax.specs.Lexemes.{Class, numeric, Lexeme, token_of, Longest}
 use Rattle.syntax.specs.Scanning.{Fits, before, Cuts, RefusedByScan, long, no_token, large, ScannedAs}
 use Rattle.syntax.proofs.Best.{front, constant_at, operator_at, quote_at, sign_at, best_of, best, best_longest, best_none}
@@ -18,11 +18,8 @@ abbrev pub Answer : Type 0
 Answer = Result (List Token) Fault
 
 unfoldable pub fitting : Option TokenKind → Bool
-fitting None = true
-fitting (Some (name bs)) = true
 fitting (Some (number n)) = leb n 2147483647
-fitting (Some (character c)) = true
-fitting (Some (symbol s)) = true
+fitting k = true
 
 unfoldable pub with_token : Option TokenKind → Position → Answer → Answer
 with_token k p (Ok ts) = Ok (before k p ts)
@@ -63,19 +60,13 @@ scanned text = result_ok (answer text)
 
 fitting_fits : (k : Option TokenKind) → fitting k ≡ true → Fits k
 unfolding fitting
-fitting_fits None h = tt
-fitting_fits (Some (name bs)) h = tt
 fitting_fits (Some (number n)) h = leb-true n 2147483647 h
-fitting_fits (Some (character c)) h = tt
-fitting_fits (Some (symbol s)) h = tt
+fitting_fits k h = tt
 
 unfitting_large : (k : Option TokenKind) → fitting k ≡ false → (n : ℕ) × (k ≡ Some (number n)) × (2147483647 < n)
 unfolding fitting
-unfitting_large None h = absurd (both_ways _ h refl)
-unfitting_large (Some (name bs)) h = absurd (both_ways _ h refl)
 unfitting_large (Some (number n)) h = (n, refl, leb-false n 2147483647 h)
-unfitting_large (Some (character c)) h = absurd (both_ways _ h refl)
-unfitting_large (Some (symbol s)) h = absurd (both_ways _ h refl)
+unfitting_large k h = absurd cc
 
 -- the answer for a text, from the tokens before a place and the answer from there on
 abbrev behind_tokens : List Token → Answer → Answer
