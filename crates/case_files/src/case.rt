@@ -13,18 +13,27 @@ pub(crate) struct Case {
 }
 
 // case_in reads what a line gives. Its stores hold something, as after another execution.
+// They are made when all of the line is read, so that a line that cannot be read asks for no memory.
 pub(crate) fn case_in(heap: Global, given: &str) -> anyhow::Result<Case> {
     let mut fields = given.split_whitespace();
+    let object = bytes_in(heap, next_field(&mut fields)?)?;
+    let words = words_in(heap, next_field(&mut fields)?)?;
+    let data = length_field(&mut fields)?;
+    let arrays = length_field(&mut fields)?;
+    let calls = length_field(&mut fields)?;
+    let operands = length_field(&mut fields)?;
+    let room = length_field(&mut fields)?;
+    let budget = next_field(&mut fields)?.parse::<u64>()?;
     Ok(Case {
-        object: bytes_in(heap, next_field(&mut fields)?)?,
-        words: words_in(heap, next_field(&mut fields)?)?,
+        object,
+        words,
         stores: Stores {
-            data: vec![in heap; 5; length_field(&mut fields)?]?,
-            heap: vec![in heap; 6; length_field(&mut fields)?]?,
-            call: vec![in heap; 7; length_field(&mut fields)?]?,
-            operand: vec![in heap; 8; length_field(&mut fields)?]?,
+            data: vec![in heap; 5; data]?,
+            heap: vec![in heap; 6; arrays]?,
+            call: vec![in heap; 7; calls]?,
+            operand: vec![in heap; 8; operands]?,
         },
-        room: length_field(&mut fields)?,
-        budget: next_field(&mut fields)?.parse::<u64>()?,
+        room,
+        budget,
     })
 }

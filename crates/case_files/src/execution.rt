@@ -1,4 +1,4 @@
-ghost use Rattle.std.specs.Prelude.{◌≤◌};
+ghost use Rattle.std.specs.Prelude.{◌≤◌, IfOk};
 
 use crate::case::{Case, case_in};
 use crate::host::Host;
@@ -75,6 +75,7 @@ impl Execution<'_> {
         mut attend: F,
     ) -> anyhow::Result<Driven>
         requires { F.IsAlwaysCallable attend }
+        ensures { IfOk result (λ driven. driven.steps ≤ self.entry.budget) }
     {
         let Execution {
             mut machine,

@@ -1,5 +1,5 @@
-use anyhow::Context;
-use std::alloc::Global;
+use anyhow::{Context, ensure};
+use std::alloc::{AllocError, Global};
 use std::str::SplitWhitespace;
 
 // next_field is the field that comes next in a line.
@@ -23,7 +23,17 @@ pub(crate) fn words_in(heap: Global, field: &str) -> anyhow::Result<Vec<i32>> {
         .try_collect(heap)
 }
 
-// bytes_in is the list of bytes in a field, two hex digits for each.
+// bytes_in is the list of bytes in a field, two hex digits for each, whose letters are small.
 pub(crate) fn bytes_in(heap: Global, field: &str) -> anyhow::Result<Vec<u8>> {
-    hex::decode(heap, field).context("a field is not in hex")
+    let digits = field.as_bytes();
+    let (pairs, odd) = digits.split_at(digits.len() - digits.len() % 2);
+    ensure!(
+        pairs
+            .iter()
+            .all(|digit| matches!(digit, b'0'..=b'9' | b'a'..=b'f')),
+        "a field is not in hex"
+    );
+    ensure!(odd.is_empty(), "a field in hex has an odd length");
+    // The library takes capitals too, which are refused above; what can still fail is memory.
+    Ok(hex::decode(heap, field).map_err(|_| AllocError)?)
 }

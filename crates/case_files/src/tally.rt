@@ -1,5 +1,5 @@
 ghost use Rattle.case_files.specs.Tallies.{compared, differs, is_as_expected, is_compared, is_left_out, tally_text};
-ghost use Rattle.std.specs.Prelude.{◌≡◌, ◌+◌, length, count_by, Some};
+ghost use Rattle.std.specs.Prelude.{◌≡◌, ◌+◌, ◌^◌, ◌<◌, length, count_by, Some};
 
 use std::fmt;
 
@@ -62,6 +62,17 @@ impl Tally {
         Tally {
             cases: compared_in(findings),
             fit: fit_in(findings),
+        }
+    }
+
+    // and is the tally of the findings of both.
+    pub(crate) fn and(self, other: Tally) -> Tally
+        ensures cases { self.cases + other.cases < 2 ^ 64 → result.cases ≡ self.cases + other.cases }
+        ensures fit { self.fit + other.fit < 2 ^ 64 → result.fit ≡ self.fit + other.fit }
+    {
+        Tally {
+            cases: self.cases.saturating_add(other.cases),
+            fit: self.fit.saturating_add(other.fit),
         }
     }
 }

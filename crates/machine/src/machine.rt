@@ -1,6 +1,6 @@
 ghost use Rattle.std.specs.Prelude.{◌≤◌, length};
 
-use crate::lengths::Lengths;
+pub use crate::lengths::Lengths;
 use outcomes::{Pause, Refusal, Verdict};
 use step::registers::Registers;
 

@@ -12,7 +12,8 @@ pub fn inspect(bytes: &[u8]) -> Result<Checked<'_>, ObjectFault>
     ensures { FoundIn bytes.now result }
 {
     let header = read_header(bytes)?;
-    let starts = Starts::of(header.code)?;
+    let mut marks = [false; 8192];
+    let starts = Starts::of(header.code, &mut marks)?;
     if let Some(offset) = starts.first_unfit(header.main) {
         return Err(ObjectFault {
             refusal: Refusal::UnfitTarget,

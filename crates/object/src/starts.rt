@@ -1,4 +1,4 @@
-ghost use Rattle.std.specs.Prelude.{◌≡◌, ◌<◌, ◌≤◌, length, pos, ◌+ℤ◌, Decides};
+ghost use Rattle.std.specs.Prelude.{◌≡◌, ◌<◌, ◌≤◌, false, length, replicate, pos, ◌+ℤ◌, Decides};
 ghost use Rattle.object.specs.Code.{Begins};
 ghost use Rattle.object.specs.Marks.{StartsFound};
 ghost use Rattle.object.specs.Targets.{Lands, Lowest, UnfitTargetAt, distance_of};
@@ -12,7 +12,8 @@ use std::marker::Model;
 #[derive(Drop)]
 pub(crate) struct Starts<'a> {
     code: &'a [u8],
-    marks: [bool; 8192],
+    // Lent: owned marks would be moved with a Starts, 8 KiB each time, and take that much more stack.
+    marks: &'a [bool],
 }
 
 // Clauses see the code.
@@ -24,7 +25,7 @@ impl<'a> Model for Starts<'a> {
 
     ghost view = { λ s. s.code.now };
 
-    ghost invariant = { λ s. (length s.code.now ≤ 8192) × Marks s.code.now s.marks };
+    ghost invariant = { λ s. (length s.code.now ≤ 8192) × Marks s.code.now s.marks.now };
 }
 
 // distance gives how far a jump or call leads from its own first byte.
@@ -38,12 +39,12 @@ fn distance(i: Instruction) -> Option<i16>
 }
 
 impl<'a> Starts<'a> {
-    // of finds where the instructions begin, or refuses the code for the first that is unreadable.
-    pub(crate) fn of(code: &'a [u8]) -> Result<Starts<'a>, ObjectFault>
-        requires { length code.now ≤ 8192 }
+    // of marks where the instructions begin, or refuses the code for the first that is unreadable.
+    pub(crate) fn of(code: &'a [u8], marks: &'a mut [bool; 8192]) -> Result<Starts<'a>, ObjectFault>
+        requires short { length code.now ≤ 8192 }
+        requires blank { marks.old ≡ replicate 8192 false }
         ensures { StartsFound code.now result }
     {
-        let mut marks = [false; 8192];
         // No range or chunks give the next offset, and an iterator over instructions would end alike
         // at the end of the code and at an unreadable one, which are told apart here.
         let mut at = 0;

@@ -18,10 +18,12 @@ pub(crate) fn is_too_large(kind: Option<TokenKind<'_>>) -> bool
 fn exceeds(digits: &[u8]) -> bool
     ensures { result ≡ nat_lt 2147483647 (worth 0 digits.now) }
 {
-    let worth = digits.iter().fold(0u32, |worth, digit| {
-        worth
-            .saturating_mul(10)
-            .saturating_add(u32::from(digit.saturating_sub(b'0')))
-    });
-    worth > LARGEST_NUMBER
+    digits
+        .iter()
+        .try_fold(0u32, |worth, digit| {
+            worth
+                .checked_mul(10)?
+                .checked_add(u32::from(digit.saturating_sub(b'0')))
+        })
+        .is_none_or(|worth| worth > LARGEST_NUMBER)
 }

@@ -80,3 +80,10 @@ Received kind word next i j = SameLoans i j × (state_of j ≡ at (pos next) (pu
 
 abbrev pub Dropped : ℕ → Interpreter → Interpreter → Type 0
 Dropped next i j = SameLoans i j × (state_of j ≡ printed_from next (state_of i))
+
+-- the same of registers and an operand store, and of registers alone, whatever the other stores hold
+abbrev pub ReceivedIn : Kind → ℤ → ℕ → Registers → List ℤ → Registers → List ℤ → Type 0
+ReceivedIn kind word next r p r' p' = (d h c : List ℤ) → state r' d h c p' ≡ at (pos next) (pushed (kept kind word) (state r d h c p))
+
+abbrev pub DroppedIn : ℕ → Registers → Registers → Type 0
+DroppedIn next r r' = (d h c p : List ℤ) → state r' d h c p ≡ printed_from next (state r d h c p)

@@ -1,6 +1,6 @@
 ghost use Rattle.std.specs.Prelude.{◌≡◌, ◌<◌, ◌≤◌, length, OnSome};
 ghost use Rattle.step.specs.Perform.{fetched};
-ghost use Rattle.step.specs.Promises.{Dropped, InCode, Received, Stepped, registers_of};
+ghost use Rattle.step.specs.Promises.{Dropped, DroppedIn, InCode, Received, ReceivedIn, Stepped, registers_of};
 
 use crate::interpreter::Interpreter;
 use crate::registers::{Effect, Registers};
@@ -58,4 +58,23 @@ impl Interpreter<'_> {
             free: self.free,
         }
     }
+}
+
+// receive is Interpreter::receive for a host that has registers and an operand store, and no interpreter.
+pub fn receive(r: &mut Registers, operand: &mut [i32], kind: Kind, word: i32, next: u16)
+    requires { r.old.height < length operand.old }
+    ensures { ReceivedIn kind word next r.old operand.old r.new operand.new }
+{
+    operand[r.height] = kind.keep(word);
+    r.height += 1;
+    r.pc = next as i32;
+}
+
+// drop_printed is Interpreter::drop_printed for a host that has registers alone.
+pub fn drop_printed(r: &mut Registers, next: u16)
+    requires { 2 ≤ r.old.height }
+    ensures { DroppedIn next r.old r.new }
+{
+    r.height -= 2;
+    r.pc = next as i32;
 }

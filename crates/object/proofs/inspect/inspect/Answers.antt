@@ -1,7 +1,7 @@
-use Rattle.std.proofs.Common.{None, Some, sym, subst}
+use Rattle.std.proofs.Common.{None, Some, sym, subst, arith}
 use Rattle.std.proofs.lemmas.Result.{err_from_is_err_and}
 use Rattle.object.specs.Targets.{Lowest, UnfitTargetAt}
-use Rattle.object.specs.Inspection.{WellFormed, RefusedFor, instruction, target}
+use Rattle.object.specs.Inspection.{RefusedFor, instruction, target}
 use Rattle.object.proofs.inspect.inspect.Goals as goal
 
 pub returns-in_err-starts : goal.returns-in_err-starts
@@ -18,14 +18,16 @@ returns-in-Some c =
     let low : Lowest (UnfitTargetAt h.code.now h.main) (Some c.in-Some.offset) = subst (λ code. Lowest (UnfitTargetAt code h.main) (Some c.in-Some.offset)) s.0 c.in-Some.ensures in
     target _ _ c.in_ok-header.ensures s.1 low
 
-formed : (c : goal.After-result-1) → WellFormed (record { code = c.in_ok-header.header.code.now; globals = c.in_ok-header.header.globals; main = c.in_ok-header.header.main })
-formed c =
+pub invariant_of-result : goal.invariant_of-result
+invariant_of-result c =
     let h = c.in_ok-header.header in
     let s = c.in_ok-starts.ensures in
-    record { limits = c.in_ok-header.ensures.limits; whole = s.1; targets = subst (λ code. Lowest (UnfitTargetAt code h.main) None) s.0 c.in_default.ensures }
-
-pub invariant_of-result : goal.invariant_of-result
-invariant_of-result c = formed c
+    let l = c.in_ok-header.ensures.limits in
+    record {
+      limits = record { code_some = l.code_some; code_short = l.code_short; globals_few = omega (arith, l.globals_few); main_inside = l.main_inside };
+      whole = s.1;
+      targets = subst (λ code. Lowest (UnfitTargetAt code h.main) None) s.0 c.in_default.ensures;
+    }
 
 pub returns : goal.returns
-returns c = (c.in_ok-header.ensures.file, formed c)
+returns c = (c.in_ok-header.ensures.file, invariant_of-result c)

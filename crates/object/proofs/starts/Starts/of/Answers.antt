@@ -1,4 +1,4 @@
-use Rattle.std.proofs.Common.{◌≡◌, drop, Some, sym, refl, ap, ◌∙◌, arith, length-drop, length-set}
+use Rattle.std.proofs.Common.{◌≡◌, drop, Some, sym, ap, ◌∙◌, arith, length-drop, length-set}
 use Rattle.std.proofs.lemmas.List.{take_rest}
 use Rattle.std.proofs.lemmas.Bool.{both_ways}
 use Rattle.instructions.specs.Decode.{decoded}
@@ -8,7 +8,7 @@ use Rattle.object.proofs.Sizes.{decoded_size}
 use Rattle.object.proofs.starts.Starts.of.Goals as goal
 
 pub loop-at-init : goal.loop-at-init
-loop-at-init c = record { boundary = boundary_first _; within = omega arith; long = refl; sound = λ k e. absurd (both_ways _ (all_blank 8192 k) e); complete = λ k b l. absurd (omega arith) }
+loop-at-init c = record { boundary = boundary_first _; within = omega arith; long = c.told-marks; sound = λ k e. absurd (both_ways _ (rw c.requires.blank (all_blank 8192 k)) e); complete = λ k b l. absurd (omega arith) }
 
 reads : (c : goal.After-struct_known-1) → decoded (drop c.loop-at.at c.args.code.now) ≡ Some c.in_ok-found.found
 reads c =

@@ -13,7 +13,7 @@ returns-in_err-lexeme c =
 
 pub returns-then-is_too_large : goal.returns-then-is_too_large
 returns-then-is_too_large c =
-    let refused : c.fault-then-is_too_large.result ≡ record { refusal = NumberTooLarge; position = c.args.self.now.position } = search (rules, tests) in
+    let refused : c.fault.result ≡ record { refusal = NumberTooLarge; position = c.args.self.now.position } = search (rules, tests) in
     let some : c.longest_lexeme.result ≡ Some c.in_ok-lexeme.lexeme = search (rules, tests) in
     rw refused
     (large_found c.args.self.now.rest.now c.args.self.now.position c.in_ok-lexeme.lexeme (subst (FoundOrNone c.args.self.now.rest.now) some c.longest_lexeme.ensures) c.if-is_too_large.ensures)
