@@ -1,5 +1,6 @@
 ghost use Rattle.std.specs.Prelude.{◌≤◌, length};
 
+// Lengths has a name here too, beside the machine that keeps them.
 pub use crate::lengths::Lengths;
 use outcomes::{Pause, Refusal, Verdict};
 use step::registers::Registers;

@@ -1,7 +1,5 @@
 -- Where jumps and calls lead, and the lowest offset to blame.
-use Rattle.std.proofs.Common.{◌≡◌, ℕ, ◌^◌, ◌<◌, ◌≤◌, Bool, not, List, drop, ℤ, pos, negsuc, ◌+ℤ◌, ◌<ℤ◌, unsigned_abs, Some, None, Decides, Option, MatchOption, sym, refl, ap, subst, inl, ⊎_elim, arith}
-use Rattle.std.specs.Int.{w64, FitsUnsigned}
-use Rattle.std.proofs.lemmas.Int.{ints}
+use Rattle.std.proofs.Common.{◌≡◌, ℕ, ◌<◌, ◌≤◌, Bool, not, List, drop, ℤ, pos, ◌+ℤ◌, Some, None, Decides, Option, MatchOption, sym, refl, ap, subst, inl, ⊎_elim, arith}
 use Rattle.std.proofs.lemmas.Bool.Decides.{Decides-like, Decides-not}
 use Rattle.instructions.specs.declared.Decoded.{Decoded}
 use Rattle.instructions.specs.Decode.{decoded}
@@ -32,15 +30,6 @@ decides_unfit code main at by r e b d =
     Decides-like (not r) (λ non. inl (strays_if code at by (decoded (drop at code)) refl e b non))
     (⊎_elim (λ s l. let same : by ≡ s.by = cc (ap leads s.reads, e, s.leads) in s.nowhere (subst (λ z. Lands code (pos at +ℤ z)) same l)) (λ p l. p.1 b))
     (Decides-not r d)
-
--- no instruction begins at a negative number
-pub lands_not : (code : List ℕ) (z : ℤ) → z <ℤ pos (2 ^ 64) → (FitsUnsigned w64 z → ⊥) → Lands code z → ⊥
-lands_not code (pos n) h f l = f (omega (arith, ints), h)
-lands_not code (negsuc n) h f l = let e = l.is in cc
-
-pub decides_lands : (code : List ℕ) (z : ℤ) (t : ℕ) (r : Bool) → FitsUnsigned w64 z → t ≡ unsigned_abs z → Decides r (Begins code t) → Decides r (Lands code z)
-decides_lands code (pos n) t r f e d = Decides-like r (λ here. record { offset = t; is = ap pos (sym e); begins = here }) (λ l. subst (Begins code) (let i = l.is in cc) l.begins) d
-decides_lands code (negsuc n) t r f e d = absurd (f.0.le)
 
 -- what is found first is the lowest
 pub lowest : (P : ℕ → Type 0) (n : ℕ) (r : Option ℕ) → ((k : ℕ) → P k → k < n) → MatchOption r ((k : ℕ) → 0 ≤ k → k < n → P k → ⊥) (λ i. (0 ≤ i) × (i < n) × P i × ((k : ℕ) → 0 ≤ k → k < i → P k → ⊥)) → Lowest P r
